@@ -1,0 +1,130 @@
+-- The delay look-up of a curve: D(q), the least m ≥ 1 with S(m) ≥ q, or never where S stays below q. Assumes nothing.
+use mathlib.Core.Path.{_≡_, refl, ap}
+use mathlib.Core.Logic.{_⊎_, inl, inr, _↔_}
+use mathlib.Core.Bool.{Bool, true, false}
+use Prim.Native.Nat.{ℕ, zero, suc, _+_, _*_, _≤_, _<_}
+use native.Mathlib.Omega.{arith}
+use borrow.Author.Tests.{leb-true, leb-false}
+use lib.Dec.{T, leb, leb→le, le→leb}
+use lib.ListN.{length}
+use Rattle.curve.specs.Order.{le-or-lt, Rises}
+use Rattle.curve.specs.Curve.{Curve, at}
+use Rattle.curve.specs.Rises.{IsCurve, at-rises, at-within}
+
+-- a slot, or never
+pub data Due : Type 0 where
+  slot : ℕ → Due
+  never : Due
+
+-- it has come when it is at most t
+unfoldable pub come : Due → ℕ → Bool
+come (slot d) t = leb d t
+come never t = false
+
+-- the first of the k numbers m, m + 1, .. at which f is at least q
+unfoldable pub find : (ℕ → ℕ) → ℕ → ℕ → ℕ → Due
+find f q zero m = never
+find f q (suc k) m = elim (leb q (f m)) [ true ↦ slot m | false ↦ find f q k (suc m) ]
+
+-- D(q): the least m ≥ 1 with S(m) ≥ q. What a curve ever gives it gives within n + P·q slots (`at-within`), so no more are tried
+unfoldable pub delay : ℕ → Curve → ℕ → Due
+delay P S q = find (at P S) q (length (S .table) + q * P) 1
+
+sound : (f : ℕ → ℕ) → Rises f → (q k m x : ℕ) → T (come (find f q k m) x) → q ≤ f x
+unfolding come find
+sound f rises q zero m x h = absurd h
+sound f rises q (suc k) m x h = go (leb q (f m)) refl h (sound f rises q k (suc m) x)
+  where
+    go : (b : Bool) → leb q (f m) ≡ b → T (come (elim b [ true ↦ slot m | false ↦ find f q k (suc m) ]) x)
+        → (T (come (find f q k (suc m)) x) → q ≤ f x)
+        → q ≤ f x
+    go true e t ih = omega (arith, leb-true q (f m) e, rises m x (leb→le m x t))
+    go false e t ih = ih t
+
+complete : (f : ℕ → ℕ) (q k m x y : ℕ) → m ≤ x → q ≤ f x → m ≤ y → y < m + k → q ≤ f y → T (come (find f q k m) x)
+unfolding come find
+complete f q zero m x y hx qx hy l qy = absurd (omega arith)
+complete f q (suc k) m x y hx qx hy l qy =
+    go (leb q (f m)) refl (le-or-lt (suc m) x) (le-or-lt (suc m) y) (λ i j. complete f q k (suc m) x y i qx j (omega arith) qy)
+  where
+    go : (b : Bool) → leb q (f m) ≡ b → (suc m ≤ x) ⊎ (x < suc m) → (suc m ≤ y) ⊎ (y < suc m)
+        → (suc m ≤ x → suc m ≤ y → T (come (find f q k (suc m)) x))
+        → T (come (elim b [ true ↦ slot m | false ↦ find f q k (suc m) ]) x)
+    go true e i j ih = le→leb m x hx
+    go false e (inl i) (inl j) ih = ih i j
+    go false e (inr i) j ih =
+        let d : x ≡ m = omega arith in
+        absurd (omega (arith, leb-false q (f m) e, rw d at qx))
+    go false e (inl i) (inr j) ih =
+        let d : y ≡ m = omega arith in
+        absurd (omega (arith, leb-false q (f m) e, rw d at qy))
+
+-- nothing that a search finds comes before its start
+from : (f : ℕ → ℕ) (q k m x : ℕ) → T (come (find f q k m) x) → m ≤ x
+unfolding come find
+from f q zero m x h = absurd h
+from f q (suc k) m x h = go (leb q (f m)) h (from f q k (suc m) x)
+  where
+    go : (b : Bool) → T (come (elim b [ true ↦ slot m | false ↦ find f q k (suc m) ]) x) → (T (come (find f q k (suc m)) x) → suc m ≤ x) → m ≤ x
+    go true t ih = leb→le m x t
+    go false t ih = omega (arith, ih t)
+
+-- what is asked of D: for m ≥ 1, D(q) has come by m exactly when S(m) ≥ q
+abbrev pub Delays : (ℕ → Due) → (ℕ → ℕ) → Type 0
+Delays D S = (q m : ℕ) → 1 ≤ m → T (come (D q) m) ↔ (q ≤ S m)
+
+-- two that have come at the same slots are one
+pub due-ext : (d e : Due) → ((t : ℕ) → T (come d t) ↔ T (come e t)) → d ≡ e
+unfolding come
+due-ext (slot d) (slot e) h =
+    let k : d ≡ e = omega (arith, leb→le e d ((h d) .0 (le→leb d d (omega arith))), leb→le d e ((h e) .1 (le→leb e e (omega arith)))) in
+    ap slot k
+due-ext (slot d) never h = absurd ((h d) .0 (le→leb d d (omega arith)))
+due-ext never (slot e) h = absurd ((h e) .1 (le→leb e e (omega arith)))
+due-ext never never h = refl
+
+-- m is the least number from 1 on at which f is at least q
+pub record First (f : ℕ → ℕ) (q m : ℕ) : Type 0 where
+  pub from : 1 ≤ m
+  pub reaches : q ≤ f m
+  pub before : (x : ℕ) → 1 ≤ x → x < m → f x < q
+
+module _ (P : ℕ) (S : Curve) (good : IsCurve P S) where
+  -- D LAW: D(q) ≤ m exactly when q ≤ S(m), for m ≥ 1 and every rate
+  pub delay-law : Delays (delay P S) (at P S)
+  unfolding delay
+  delay-law q m h =
+      let p : 1 ≤ P = good .period in
+      let l : P ≤ length (S .table) = good .long in
+      let n : ℕ = length (S .table) + q * P in
+      (sound (at P S) (at-rises P S good) q n 1 m, λ a. complete (at P S) q n 1 m n h a (omega arith) (omega arith) (at-within P S good q m a))
+
+  -- D(q) is the least, where there is one
+  pub delay-is : (q m : ℕ) → First (at P S) q m → delay P S q ≡ slot m
+  unfolding delay come
+  delay-is q m g = due-ext (delay P S q) (slot m) (λ t. (there t, back t))
+    where
+      there : (t : ℕ) → T (come (delay P S q) t) → T (leb m t)
+      there t h = go (le-or-lt m t)
+        where
+          one : 1 ≤ t
+          one = from (at P S) q (length (S .table) + q * P) 1 t h
+
+          go : (m ≤ t) ⊎ (t < m) → T (leb m t)
+          go (inl a) = le→leb m t a
+          go (inr a) = absurd (omega (arith, g .before t one a, (delay-law q t one) .0 h))
+
+      back : (t : ℕ) → T (leb m t) → T (come (delay P S q) t)
+      back t h =
+          let a : m ≤ t = leb→le m t h in
+          (delay-law q t (omega (arith, g .from))) .1 (omega (arith, g .reaches, at-rises P S good m t a))
+
+  -- and never where there is none
+  pub delay-never : (q : ℕ) → ((m : ℕ) → 1 ≤ m → at P S m < q) → delay P S q ≡ never
+  unfolding delay come
+  delay-never q h = due-ext (delay P S q) never (λ t. (none t, λ k. absurd k))
+    where
+      none : (t : ℕ) → T (come (delay P S q) t) → ⊥
+      none t k =
+          let one : 1 ≤ t = from (at P S) q (length (S .table) + q * P) 1 t k in
+          omega (arith, h t one, (delay-law q t one) .0 k)

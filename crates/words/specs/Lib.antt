@@ -1,0 +1,3 @@
+-- Numbers that lie as bytes, the highest byte first.
+pub mod Words
+pub mod Written
