@@ -42,3 +42,6 @@ lengthBytes = 4
 
 abbrev pub mostFollowing : ℕ
 mostFollowing = 4212
+
+abbrev pub longestSheet : ℕ
+longestSheet = 4216

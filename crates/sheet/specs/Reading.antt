@@ -43,12 +43,14 @@ fieldLines P rest place =
     ∷ line 7 (ltb (length rest) (recordBytes rest)) place
     ∷ []
 
--- then 10, of the service and of the envelope
+-- 10, of its service and of its envelope
+unfoldable pub tablesLines : ℕ → List ℕ → ℕ → List Line
+tablesLines P rest place =
+    tableLines P (sessionOf rest .service) (place + fixedBytes) (place + 3)
+    ++ tableLines P (sessionOf rest .envelope) (place + envelopePlace rest) (place + 5)
+
 unfoldable pub sessionLines : ℕ → List ℕ → ℕ → List Line
-sessionLines P rest place =
-    fieldLines P rest place
-    ++ (tableLines P (sessionOf rest .service) (place + fixedBytes) (place + 3)
-    ++ tableLines P (sessionOf rest .envelope) (place + envelopePlace rest) (place + 5))
+sessionLines P rest place = fieldLines P rest place ++ tablesLines P rest place
 
 -- m sessions, and last 11
 unfoldable pub bodyLines : ℕ → List ℕ → ℕ → ℕ → List Line

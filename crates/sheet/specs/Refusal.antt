@@ -1,11 +1,11 @@
 -- Refusals as document 01 tables them: a list of lines in the order of the reading, of which the first that applies is answered. Assumes nothing.
 use mathlib.Core.Path.{_≡_, refl, sym, ap, _∙_}
-use mathlib.Core.Bool.{Bool, true, false, _||_, true≢false}
+use mathlib.Core.Bool.{Bool, true, false, not, _||_, true≢false}
 use mathlib.Core.List.{List, [], _∷_, _++_}
 use Prim.Native.Nat.{ℕ, _≤_, _<_}
 use native.Mathlib.Omega.{arith}
-use borrow.Author.Tests.{ltb-false, lt-ltb, le-ltb}
-use lib.Dec.{ltb}
+use borrow.Author.Tests.{ltb-false, lt-ltb, le-ltb, eq-eqb, ne-eqb}
+use lib.Dec.{ltb, eqb}
 
 -- nothing to refuse, or a refusal: its number and its place
 pub data Refusal : Type 0 where
@@ -37,7 +37,23 @@ pub within : (low high x : ℕ) → low ≤ x → x ≤ high → outside low hig
 unfolding outside
 within low high x l h = rw (le-ltb x low l, le-ltb high x h)
 
-or-false : (a b : Bool) → (a || b) ≡ false → (a ≡ false) × (b ≡ false)
+-- tests that are joined or negated
+pub or-left : (a b : Bool) → a ≡ true → (a || b) ≡ true
+or-left a b e = rw e
+
+pub or-right : (a b : Bool) → a ≡ false → b ≡ true → (a || b) ≡ true
+or-right a b e f = rw (e, f)
+
+pub or-neither : (a b : Bool) → a ≡ false → b ≡ false → (a || b) ≡ false
+or-neither a b e f = rw (e, f)
+
+pub differs : (x y : ℕ) → (x ≡ y → ⊥) → not (eqb x y) ≡ true
+differs x y h = rw (ne-eqb x y h)
+
+pub agrees : (x y : ℕ) → x ≡ y → not (eqb x y) ≡ false
+agrees x y e = rw (eq-eqb x y e)
+
+pub or-false : (a b : Bool) → (a || b) ≡ false → (a ≡ false) × (b ≡ false)
 or-false true b e = absurd (true≢false e)
 or-false false b e = (refl, e)
 
@@ -69,14 +85,29 @@ first-append [] ys = refl
 first-append (line number true place ∷ xs) ys = refl
 first-append (line number false place ∷ xs) ys = first-append xs ys
 
+-- a refusal of the first list is that of both
+pub first-found : (xs ys : List Line) (number place : ℕ) → first xs ≡ refused number place → first (xs ++ ys) ≡ refused number place
+unfolding orElse
+first-found xs ys number place e = first-append xs ys ∙ rw e
+
 -- READS: no line applies
 abbrev pub Clear : List Line → Type 0
 Clear ls = first ls ≡ none
+
+-- no line at all
+pub clear-nil : Clear []
+unfolding first
+clear-nil = refl
 
 refused-none : {number place : ℕ} → refused number place ≡ none → ⊥
 refused-none e =
     let z : _≡_ {A = ℕ} 0 1 = cc in
     omega arith
+
+-- then the next list's is that of both
+pub first-clear : (xs ys : List Line) → Clear xs → first (xs ++ ys) ≡ first ys
+unfolding orElse
+first-clear xs ys e = first-append xs ys ∙ rw e
 
 -- none of two lists applies exactly when none of either does
 pub clear-append : (xs ys : List Line) → Clear (xs ++ ys) → Clear xs × Clear ys
@@ -88,8 +119,7 @@ clear-append xs ys e = go (first xs) refl (sym (first-append xs ys) ∙ e)
     go (refused number place) a b = absurd (refused-none b)
 
 pub append-clear : (xs ys : List Line) → Clear xs → Clear ys → Clear (xs ++ ys)
-unfolding orElse
-append-clear xs ys a b = first-append xs ys ∙ rw a b
+append-clear xs ys a b = first-clear xs ys a ∙ b
 
 module _ (number : ℕ) (applies : Bool) (place : ℕ) (ls : List Line) where
   pub clear-next : Clear (line number applies place ∷ ls) → (applies ≡ false) × Clear ls

@@ -10,6 +10,10 @@ use Rattle.words.specs.Words.{words}
 abbrev pub twoBytes : ℕ → List ℕ
 twoBytes v = v / 256 ∷ v % 256 ∷ []
 
+-- a number as four bytes
+abbrev pub fourBytes : ℕ → List ℕ
+fourBytes v = twoBytes (v / 65536) ++ twoBytes (v % 65536)
+
 -- each number as two bytes
 unfoldable pub eachTwo : List ℕ → List ℕ
 eachTwo [] = []
