@@ -41,23 +41,50 @@ sound f rises q (suc k) m x h = go (leb q (f m)) refl h (sound f rises q k (suc 
     go true e t ih = omega (arith, leb-true q (f m) e, rises m x (leb→le m x t))
     go false e t ih = ih t
 
-complete : (f : ℕ → ℕ) (q k m x y : ℕ) → m ≤ x → q ≤ f x → m ≤ y → y < m + k → q ≤ f y → T (come (find f q k m) x)
-unfolding come find
-complete f q zero m x y hx qx hy l qy = absurd (omega arith)
-complete f q (suc k) m x y hx qx hy l qy =
-    go (leb q (f m)) refl (le-or-lt (suc m) x) (le-or-lt (suc m) y) (λ i j. complete f q k (suc m) x y i qx j (omega arith) qy)
+-- what a search from m on finds, where one of the numbers it tries is large enough: the first such
+pub record Found (f : ℕ → ℕ) (q m : ℕ) (d : Due) : Type 0 where
+  pub place : ℕ
+  pub is : d ≡ slot place
+  pub from : m ≤ place
+  pub reaches : q ≤ f place
+  pub before : (x : ℕ) → m ≤ x → x < place → f x < q
+
+pub find-found : (f : ℕ → ℕ) (q k m y : ℕ) → m ≤ y → y < m + k → q ≤ f y → Found f q m (find f q k m)
+unfolding find
+find-found f q zero m y h l w = absurd (omega arith)
+find-found f q (suc k) m y h l w = go (leb q (f m)) refl (λ i. find-found f q k (suc m) y i (omega arith) w)
   where
-    go : (b : Bool) → leb q (f m) ≡ b → (suc m ≤ x) ⊎ (x < suc m) → (suc m ≤ y) ⊎ (y < suc m)
-        → (suc m ≤ x → suc m ≤ y → T (come (find f q k (suc m)) x))
-        → T (come (elim b [ true ↦ slot m | false ↦ find f q k (suc m) ]) x)
-    go true e i j ih = le→leb m x hx
-    go false e (inl i) (inl j) ih = ih i j
-    go false e (inr i) j ih =
-        let d : x ≡ m = omega arith in
-        absurd (omega (arith, leb-false q (f m) e, rw d at qx))
-    go false e (inl i) (inr j) ih =
-        let d : y ≡ m = omega arith in
-        absurd (omega (arith, leb-false q (f m) e, rw d at qy))
+    other : f m < q → (x : ℕ) → q ≤ f x → m ≤ x → suc m ≤ x
+    other s x g i = past (le-or-lt (suc m) x)
+      where
+        past : (suc m ≤ x) ⊎ (x < suc m) → suc m ≤ x
+        past (inl j) = j
+        past (inr j) =
+            let e : x ≡ m = omega arith in
+            absurd (omega (arith, ap f e))
+
+    go : (b : Bool) → leb q (f m) ≡ b → (suc m ≤ y → Found f q (suc m) (find f q k (suc m)))
+        → Found f q m (elim b [ true ↦ slot m | false ↦ find f q k (suc m) ])
+    go true e ih = record { place = m; is = refl; from = omega arith; reaches = leb-true q (f m) e; before = λ x i j. absurd (omega arith) }
+    go false e ih =
+        let s : f m < q = leb-false q (f m) e in
+        let g = ih (other s y w h) in
+        record { place = g .place; is = g .is; from = omega (arith, g .from); reaches = g .reaches; before = λ x i j. under s g x i j (le-or-lt q (f x)) }
+      where
+        under : f m < q → (g : Found f q (suc m) (find f q k (suc m))) (x : ℕ) → m ≤ x → x < g .place → (q ≤ f x) ⊎ (f x < q) → f x < q
+        under s g x i j (inl a) = g .before x (other s x a i) j
+        under s g x i j (inr a) = a
+
+complete : (f : ℕ → ℕ) (q k m x y : ℕ) → m ≤ x → q ≤ f x → m ≤ y → y < m + k → q ≤ f y → T (come (find f q k m) x)
+unfolding come
+complete f q k m x y hx qx hy l qy = go (find-found f q k m y hy l qy)
+  where
+    go : Found f q m (find f q k m) → T (come (find f q k m) x)
+    go g = rw (g .is) (le→leb (g .place) x (here (le-or-lt (g .place) x)))
+      where
+        here : (g .place ≤ x) ⊎ (x < g .place) → g .place ≤ x
+        here (inl a) = a
+        here (inr a) = absurd (omega (arith, g .before x hx a))
 
 -- nothing that a search finds comes before its start
 from : (f : ℕ → ℕ) (q k m x : ℕ) → T (come (find f q k m) x) → m ≤ x

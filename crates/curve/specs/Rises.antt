@@ -50,7 +50,7 @@ module _ (P : ℕ) (F : Curve) (good : IsCurve P F) where
   at-rises = rises-by-steps (at P F) (λ x. step (suc x) x (omega arith))
 
   -- with a rate, a curve passes every number of packets
-  grows : 1 ≤ F .rate → (k : ℕ) → k ≤ at P F (length (F .table) + k * P)
+  pub grows : 1 ≤ F .rate → (k : ℕ) → k ≤ at P F (length (F .table) + k * P)
   grows r k =
       let p : 1 ≤ P = good .period in
       let more : k * 1 ≤ k * F .rate = mul-le-mul-left k r in
