@@ -14,3 +14,4 @@ pub mod Exact
 pub mod Told
 pub mod OneAnswer
 pub mod Walk
+pub mod Tells

@@ -32,7 +32,7 @@ pub record Reached (bytes : List ℕ) (i at : ℕ) (starts : List ℕ) : Type 0 
   pub each : (j : ℕ) → getD starts j 0 ≡ placed bytes i j
 
 -- a place is a session's start, or 0
-placed-start : (bytes : List ℕ) (m j : ℕ) → j < m → placed bytes m j ≡ startOf bytes j
+pub placed-start : (bytes : List ℕ) (m j : ℕ) → j < m → placed bytes m j ≡ startOf bytes j
 unfolding placed
 placed-start bytes m j h = rw (lt-ltb j m h, placed)
 

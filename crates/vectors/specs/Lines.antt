@@ -2,11 +2,11 @@
 use mathlib.Core.List.{List}
 use Prim.Native.Nat.{ℕ, _≤_, _<_}
 use Rattle.io.specs.Counts.{Counts}
-use Rattle.vectors.specs.declared.Progress.{Progress}
-use Rattle.vectors.specs.declared.Step.{Step}
-use Rattle.vectors.specs.declared.Step.the-variants.{On, Unclear}
-use Rattle.vectors.specs.declared.Line.{Line}
-use Rattle.vectors.specs.declared.Line.the-variants as line
+use Rattle.vectors.specs.declared.text.Progress.{Progress}
+use Rattle.vectors.specs.declared.text.Step.{Step}
+use Rattle.vectors.specs.declared.text.Step.the-variants.{On, Unclear}
+use Rattle.vectors.specs.declared.text.Line.{Line}
+use Rattle.vectors.specs.declared.text.Line.the-variants as line
 
 -- the bracket began no later than the word, and the word within the bytes written, for which there is room
 pub record Ordered (most : ℕ) (p : Progress) : Type 0 where

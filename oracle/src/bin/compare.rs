@@ -1,9 +1,10 @@
-//! `compare read SEED COUNT PROGRAM ..` hands COUNT random sheets of a seed to a program that
-//! reads sheets as lines of hex digits, and holds each line that it writes to this
-//! implementation's. Where one differs it prints the shortest such sheet and ends with status 1.
+//! `compare sheets SEED COUNT PROGRAM ..` hands COUNT random sheets of a seed to a program that
+//! takes sheets as lines of hex digits, and holds what it writes, the reading and the verdict, to
+//! this implementation's. Where one differs it prints the shortest such sheet and ends with
+//! status 1.
 
 use oracle::gen::case;
-use oracle::stream::read_line;
+use oracle::stream::{read_line, verdict_line};
 use std::io::{self, Write};
 use std::process::{Command, Stdio};
 
@@ -20,7 +21,7 @@ struct Difference {
 fn main() -> io::Result<()> {
     let arguments: Vec<String> = std::env::args().skip(1).collect();
     let (seed, count, program) = match (number(&arguments, 1), number(&arguments, 2)) {
-        (Some(seed), Some(count)) if arguments[0] == "read" && arguments.len() > 3 => {
+        (Some(seed), Some(count)) if arguments[0] == "sheets" && arguments.len() > 3 => {
             (seed, count, &arguments[3..])
         }
         _ => usage(),
@@ -45,7 +46,7 @@ fn main() -> io::Result<()> {
 }
 
 fn usage() -> ! {
-    eprintln!("usage: compare read SEED COUNT PROGRAM ..");
+    eprintln!("usage: compare sheets SEED COUNT PROGRAM ..");
     std::process::exit(2);
 }
 
@@ -58,6 +59,16 @@ fn as_text(sheet: &[u8]) -> String {
         return "-".to_string();
     }
     sheet.iter().map(|byte| format!("{byte:02X}")).collect()
+}
+
+/// The lines of one sheet: its reading and, if it reads, its verdict.
+fn answer(sheet: &[u8]) -> String {
+    let reading = read_line(sheet);
+    if reading.starts_with("read") {
+        reading + "\n" + &verdict_line(sheet)
+    } else {
+        reading
+    }
 }
 
 /// Runs the program on a piece of the sheets and holds its lines to the expected ones.
@@ -76,8 +87,12 @@ fn compared(sheets: &[Vec<u8>], text: &str, program: &[String]) -> io::Result<Ve
     let mut lines = written.lines();
     let mut differences = Vec::new();
     for sheet in sheets {
-        let expected = read_line(sheet);
-        let given = lines.next().unwrap_or("nothing").to_string();
+        let expected = answer(sheet);
+        let given = expected
+            .lines()
+            .map(|_| lines.next().unwrap_or("nothing"))
+            .collect::<Vec<_>>()
+            .join("\n");
         if expected != given {
             differences.push(Difference {
                 sheet: as_text(sheet),
@@ -92,11 +107,11 @@ fn compared(sheets: &[Vec<u8>], text: &str, program: &[String]) -> io::Result<Ve
 fn report(seed: u64, count: u64, differences: Vec<Difference>) -> io::Result<()> {
     let shortest = differences.iter().min_by_key(|one| one.sheet.len());
     match shortest {
-        None => println!("{count} random sheets of seed {seed} are read alike"),
+        None => println!("{count} random sheets of seed {seed} are read and judged alike"),
         Some(one) => {
             println!("{} of {count} random sheets differ", differences.len());
             println!("the shortest: {}", one.sheet);
-            println!("expected: {}\ngiven: {}", one.expected, one.given);
+            println!("expected:\n{}\ngiven:\n{}", one.expected, one.given);
             std::process::exit(1);
         }
     }

@@ -22,14 +22,11 @@ fits c = subst (Fits (c .before .before .before .before .sheet-bytes .last .1 .0
 array-share-prefix-bytes : tie.Need-array-share-prefix-bytes
 array-share-prefix-bytes c = fits c .0
 
-slice-aggregate-read : tie.Need-slice-aggregate-read
-slice-aggregate-read c = fits (c .before) .1
+slice-aggregate-answer : tie.Need-slice-aggregate-answer
+slice-aggregate-answer c = fits (c .before) .1
 
-read-requires : tie.Need-read-requires
-read-requires c κs = search needs
-
-print-reading-requires : tie.Need-print-reading-requires
-print-reading-requires c κs = search needs
+answer-requires : tie.Need-answer-requires
+answer-requires c κs = search needs
 
 enum-told : tie.Need-enum-told
 enum-told c = search needs
@@ -54,9 +51,8 @@ run-sheet-spec =
     sheet-bytes-requires
     enum-known-n
     array-share-prefix-bytes
-    slice-aggregate-read
-    read-requires
-    print-reading-requires
+    slice-aggregate-answer
+    answer-requires
     enum-told
     slice-aggregate-write-all
     write-all-requires

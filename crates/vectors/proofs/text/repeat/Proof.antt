@@ -3,8 +3,8 @@ use mathlib.Core.Path.{_≡_}
 use Prim.Native.Nat.{_-_, _≤_}
 use borrow.Author.Needs.{needs}
 use lib.ListN.{length}
-use Rattle.vectors.proofs.repeat.Statement.{statement}
-use Rattle.vectors.proofs.repeat.Tie as tie
+use Rattle.vectors.proofs.text.repeat.Statement.{statement}
+use Rattle.vectors.proofs.text.repeat.Tie as tie
 
 abbrev Inv-loop : tie.InvT-loop
 Inv-loop bytes₀ from to count end₀ i₀ bytes end i = (from ≤ end) × (end ≤ length bytes₀) × (length bytes ≡ length bytes₀)

@@ -2,8 +2,8 @@
 use Prim.Native.Nat.{_-_, _≤_}
 use borrow.Author.Needs.{needs}
 use lib.ListN.{length}
-use Rattle.vectors.proofs.count_at.Statement.{statement}
-use Rattle.vectors.proofs.count_at.Tie as tie
+use Rattle.vectors.proofs.text.count_at.Statement.{statement}
+use Rattle.vectors.proofs.text.count_at.Tie as tie
 
 abbrev Inv-loop : tie.InvT-loop
 Inv-loop line from count₀ end₀ count end = (from ≤ end) × (end ≤ length line)

@@ -5,10 +5,10 @@ use native.Mathlib.Omega.{arith}
 use borrow.Author.Needs.{needs}
 use lib.ListN.{length}
 use Rattle.vectors.specs.Lines.{Ordered, Further}
-use Rattle.vectors.specs.declared.Step.the-variants.{On}
+use Rattle.vectors.specs.declared.text.Step.the-variants.{On}
 use Rattle.io.proofs.Counting.{counts}
-use Rattle.vectors.proofs.sheet_bytes.Statement.{statement}
-use Rattle.vectors.proofs.sheet_bytes.Tie as tie
+use Rattle.vectors.proofs.text.sheet_bytes.Statement.{statement}
+use Rattle.vectors.proofs.text.sheet_bytes.Tie as tie
 
 abbrev Inv-loop : tie.InvT-loop
 Inv-loop line bytes₀ p₀ bytes p = (p .at ≤ length line) × Ordered (length bytes₀) p × (length bytes ≡ length bytes₀)

@@ -1,0 +1,72 @@
+-- What the reader answers makes the sheet ready, or is the refusal itself. Assumes nothing.
+use mathlib.Core.Path.{_≡_, sym, ap, _∙_}
+use native.Mathlib.Omega.{arith}
+use borrow.Author.Needs.{needs}
+use denote.Ref.{now}
+use Rattle.sheet.specs.Makes.{AllBytes, makes}
+use Rattle.sheet.specs.Tells.{refused-tells, read-tells}
+use Rattle.verdict.specs.Ready.{Ready}
+use Rattle.verdict.specs.Figured.{figures-none}
+use Rattle.verdict.proofs.judge.Statement.{statement}
+use Rattle.verdict.proofs.judge.Tie as tie
+
+-- the bytes of a slice are bytes
+all-bytes : (c : tie.After-shared-slice-known) → AllBytes (now (c .before .args .bytes))
+all-bytes c i = omega (arith, c .shared-slice-known .given i)
+
+-- bytes that read make a sheet that is ready
+ready : (c : tie.After-known-told2)
+    → Ready (now (c .before .before .before .before .before .before .args .bytes)) (c .before .before .before .before .read .result .starts) (c .before .outcome2 .given .0 .1 .1 .0) (c .before .outcome2 .given .0 .0 .0) (c .before .outcome2 .given .0 .1 .0 .0)
+ready c =
+    let bytes = now (c .before .before .before .before .before .before .args .bytes) in
+    let r = c .before .before .before .before .read .ensures in
+    let t = read-tells bytes _ _ _ _ (rw (c .before .outcome2 .given .1) at r) in
+    record {
+      reads = t .reads;
+      made = makes bytes (all-bytes (c .before .before .before .before .before)) (t .reads);
+      count-is = t .count;
+      capacity = t .capacity;
+      period = t .period-is;
+      sixteen = r .sixteen;
+      each = t .each;
+    }
+
+read-requires : tie.Need-read-requires
+read-requires c κs = search needs
+
+enum-known-outcome : tie.Need-enum-known-outcome
+enum-known-outcome c = search needs
+
+enum-known-outcome-2 : tie.Need-enum-known-outcome-2
+enum-known-outcome-2 c = search needs
+
+cast-count : tie.Need-cast-count
+cast-count c = search needs
+
+search-requires : tie.Need-search-requires
+search-requires c κs = ready c
+
+all-figures-requires : tie.Need-all-figures-requires
+all-figures-requires c κs = ready (c .before)
+
+returns : tie.Need-returns
+returns c =
+    let bytes = now (c .before .before .before .before .before .before .args .bytes) in
+    let e = refused-tells bytes _ _ _ (rw (c .before .outcome .given .1) at (c .before .before .before .before .read .ensures)) in
+    record { says = e; figures-are = figures-none bytes _ _ e }
+
+returns-2 : tie.Need-returns-2
+returns-2 c = search needs
+
+pub judge-spec : {M : Type 1} → statement M
+judge-spec =
+    tie.close
+    (tie.spec
+    read-requires
+    enum-known-outcome
+    enum-known-outcome-2
+    cast-count
+    search-requires
+    all-figures-requires
+    returns
+    returns-2)

@@ -1,0 +1,15 @@
+-- The verdict: what it says, why a finite walk settles it, and what the program keeps on its way.
+pub mod Load
+pub mod Candidates
+pub mod Bends
+pub mod Passes
+pub mod Stop
+pub mod Walk
+pub mod Answer
+pub mod Figure
+pub mod Verdict
+pub mod Ready
+pub mod OneVerdict
+pub mod Share
+pub mod Steps
+pub mod Figured

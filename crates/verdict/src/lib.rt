@@ -1,0 +1,210 @@
+// The verdict on sheet bytes: a sheet passes exactly when the sum of (b*S)(t) over its sessions is at most c·t at every positive slot count. It works on the bytes in place.
+ghost use mathlib.Core.Path.{_≡_};
+ghost use Prim.Native.Nat.{ℕ, _+_, _*_, _-_, _<_, _≤_, min};
+ghost use lib.ListN.{length, getD};
+ghost use Rattle.curve.specs.Least.{least};
+ghost use Rattle.curve.specs.Lookup.{farthest};
+ghost use Rattle.sheet.specs.Refusal.{none};
+ghost use Rattle.sheet.specs.Bytes.{sessionOf};
+ghost use Rattle.verdict.specs.Share.{better};
+ghost use Rattle.verdict.specs.Figure.{figure};
+ghost use Rattle.verdict.specs.Ready.{Ready, Drawn};
+ghost use Rattle.verdict.specs.Verdict.{told, Says, Figures, Judges};
+use curve::Packets;
+use curve::Slots;
+use sheet::Outcome;
+use sheet::Session;
+
+// The walk over slot counts has settled here at the latest; the proofs say why.
+const WALK_END: u32 = 131216;
+// Past this slot count no two tables of a session reach, so the loads bend.
+const BOTH_TABLES: u32 = 128;
+
+const LONGEST_TABLE: u32 = 64;
+
+pub enum Verdict {
+    // The slack, and the least slot count that gives it.
+    Passed(Packets, Slots),
+    // The least slot count at which the inequality fails.
+    Failed(Slots),
+    // The number of the refusal, and its place.
+    Unreadable(u32, u32),
+}
+
+pub struct Answer {
+    pub verdict: Verdict,
+    // The delay figure of each session, 0 past the last.
+    pub figures: [Slots; 16],
+}
+
+fn lesser(a: u32, b: u32) -> u32
+    ensures { λ r. ⌜ r ≡ min a b ⌝ }
+{
+    if a < b { a } else { b }
+}
+
+// The better of two ways to share t slots: x of them for the envelope, or x of them for the service.
+fn tried(rest: &[u8], s: Session, period: Slots, t: Slots, x: Slots) -> Packets
+    requires { ⌜ Drawn (period .0) (now rest) s × (x .0 ≤ t .0) × (t .0 < farthest) ⌝ }
+    ensures { λ r. ⌜ r .0 ≡ better (period .0) (sessionOf (now (rest .entry)) .envelope) (sessionOf (now (rest .entry)) .service) (t .0) (x .0) ⌝ }
+{
+    let a = s.service.from;
+    let b = s.service.to;
+    let rate = s.service.rate;
+    let d = s.envelope.from;
+    let e = s.envelope.to;
+    let other = s.envelope.rate;
+    let left = Slots(t.0 - x.0);
+    let one = curve::value(&rest[d..e], period, other, x).0
+        + curve::value(&rest[a..b], period, rate, left).0;
+    let two = curve::value(&rest[d..e], period, other, left).0
+        + curve::value(&rest[a..b], period, rate, x).0;
+    Packets(lesser(one, two))
+}
+
+// The least of some numbers.
+fn least_of(tries: &[u32]) -> u32
+    requires { ⌜ 1 ≤ length (now tries) ⌝ }
+    ensures { λ r. ⌜ r ≡ least (λ i. getD (now (tries .entry)) i 0) (length (now (tries .entry)) - 1) ⌝ }
+{
+    let mut best = tries[0];
+    let mut i: usize = 1;
+    while i < tries.len() {
+        best = lesser(best, tries[i]);
+        i += 1;
+    }
+    best
+}
+
+// The search for a failing slot count, which stops at the first one.
+fn search(bytes: &[u8], starts: [usize; 16], count: usize, c: Packets, period: Slots) -> Verdict
+    requires { ⌜ Ready (now bytes) starts count (c .0) (period .0) ⌝ }
+    ensures { λ r. ⌜ Says (now (bytes .entry)) (told r) ⌝ }
+{
+    let p = period.0;
+    let each = c.0;
+    let mut loads = [0u32; 16];
+    let mut slack = each + 1;
+    let mut first: u32 = 0;
+    let mut steady: u32 = 0;
+    let mut t: u32 = 1;
+    let failing = 'slots: loop {
+        if WALK_END < t {
+            break 'slots 0;
+        }
+        let top = lesser(t, LONGEST_TABLE);
+        let mut load: u32 = 0;
+        let mut i: usize = 0;
+        'sessions: while i < count {
+            let at = starts[i];
+            let rest = &bytes[at..];
+            let s = sheet::fields(rest);
+            let mut tries = [0u32; 65];
+            let mut x: u32 = 0;
+            'positions: while x <= top {
+                let share = tried(rest, s, period, Slots(t), Slots(x));
+                tries[x as usize] = share.0;
+                x += 1;
+            }
+            load += least_of(&tries[..x as usize]);
+            i += 1;
+        }
+        let most = each * t;
+        if most < load {
+            break 'slots t;
+        }
+        let spare = most - load;
+        if spare < slack {
+            slack = spare;
+            first = t;
+        }
+        if BOTH_TABLES < t {
+            let limit = loads[((t - p) % 16) as usize] + each * p;
+            if load <= limit {
+                steady += 1;
+                if steady == p {
+                    break 'slots 0;
+                }
+            } else {
+                steady = 0;
+            }
+        }
+        loads[(t % 16) as usize] = load;
+        t += 1;
+    };
+    if failing == 0 {
+        Verdict::Passed(Packets(slack), Slots(first))
+    } else {
+        Verdict::Failed(Slots(failing))
+    }
+}
+
+// The delay figure of the session whose bytes start with `rest`.
+fn figure(rest: &[u8], s: Session, period: Slots) -> Slots
+    requires { ⌜ Drawn (period .0) (now rest) s ⌝ }
+    ensures { λ r. ⌜ r .0 ≡ figure (period .0) (sessionOf (now (rest .entry)) .envelope) (sessionOf (now (rest .entry)) .service) ⌝ }
+{
+    let a = s.service.from;
+    let b = s.service.to;
+    let rate = s.service.rate;
+    let d = s.envelope.from;
+    let e = s.envelope.to;
+    let other = s.envelope.rate;
+    let n = ((e - d) / 2) as u32;
+    let mut largest: u32 = 0;
+    let mut x: u32 = 1;
+    while x <= n {
+        let q = curve::value(&rest[d..e], period, other, Slots(x));
+        let due = curve::delay(&rest[a..b], period, rate, q).0;
+        if x < due {
+            if largest < due - x {
+                largest = due - x;
+            }
+        }
+        x += 1;
+    }
+    Slots(largest)
+}
+
+// The figures of all sessions.
+fn all_figures(
+    bytes: &[u8],
+    starts: [usize; 16],
+    count: usize,
+    c: Packets,
+    period: Slots,
+) -> [Slots; 16]
+    requires { ⌜ Ready (now bytes) starts count (c .0) (period .0) ⌝ }
+    ensures { λ r. ⌜ Figures (now (bytes .entry)) r ⌝ }
+{
+    let mut figures = [Slots(0); 16];
+    let mut i: usize = 0;
+    while i < count {
+        let at = starts[i];
+        let rest = &bytes[at..];
+        figures[i] = figure(rest, sheet::fields(rest), period);
+        i += 1;
+    }
+    figures
+}
+
+// Judges a sheet: any bytes, any length.
+pub fn judge(bytes: &[u8]) -> Answer
+    ensures { λ r. ⌜ Judges (now (bytes .entry)) (r .verdict) (r .figures) ⌝ }
+{
+    let reading = sheet::read(bytes);
+    let outcome = reading.outcome;
+    let starts = reading.starts;
+    match outcome {
+        Outcome::Refused(number, place) => Answer {
+            verdict: Verdict::Unreadable(number, place),
+            figures: [Slots(0); 16],
+        },
+        Outcome::Read(c, period, m) => {
+            let count = m as usize;
+            let verdict = search(bytes, starts, count, c, period);
+            let figures = all_figures(bytes, starts, count, c, period);
+            Answer { verdict, figures }
+        }
+    }
+}
