@@ -98,7 +98,7 @@ fn search(bytes: &[u8], starts: [usize; 16], count: usize, c: Packets, period: S
         'sessions: while i < count {
             let at = starts[i];
             let rest = &bytes[at..];
-            let s = sheet::fields(rest);
+            let s = sheet::sessions::fields(rest);
             let mut tries = [0u32; 65];
             let mut x: u32 = 0;
             'positions: while x <= top {
@@ -182,7 +182,7 @@ fn all_figures(
     while i < count {
         let at = starts[i];
         let rest = &bytes[at..];
-        figures[i] = figure(rest, sheet::fields(rest), period);
+        figures[i] = figure(rest, sheet::sessions::fields(rest), period);
         i += 1;
     }
     figures

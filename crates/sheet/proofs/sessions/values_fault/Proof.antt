@@ -9,8 +9,8 @@ use Rattle.words.specs.Words.{words, length-words}
 use Rattle.sheet.specs.Refusal.{first}
 use Rattle.sheet.specs.Reading.{valueLines}
 use Rattle.sheet.specs.Values.{values-none, values-above, values-falling, values-next}
-use Rattle.sheet.proofs.values_fault.Statement.{statement}
-use Rattle.sheet.proofs.values_fault.Tie as tie
+use Rattle.sheet.proofs.sessions.values_fault.Statement.{statement}
+use Rattle.sheet.proofs.sessions.values_fault.Tie as tie
 
 abbrev Inv-loop : tie.InvT-loop
 Inv-loop table place n before₀ i₀ before i =

@@ -13,8 +13,8 @@ use Rattle.sheet.specs.Refusal.{first, first-here, first-next, clear-nil
 use Rattle.sheet.specs.Limits.{version, lengthBytes, mostFollowing}
 use Rattle.sheet.specs.Bytes.{following, versionOf}
 use Rattle.sheet.specs.Reading.{headLines}
-use Rattle.sheet.proofs.head_fault.Statement.{statement}
-use Rattle.sheet.proofs.head_fault.Tie as tie
+use Rattle.sheet.proofs.head.head_fault.Statement.{statement}
+use Rattle.sheet.proofs.head.head_fault.Tie as tie
 
 -- after k lines that do not apply
 abbrev Past : ℕ → tie.Start → Type 0

@@ -14,8 +14,8 @@ use Rattle.sheet.specs.Refusal.{Clear, first, first-found, first-clear, 
 use Rattle.sheet.specs.Reading.{valueLines, tableLines}
 use Rattle.sheet.specs.Values.{join-low, join-high}
 use Rattle.sheet.specs.Told.{fault}
-use Rattle.sheet.proofs.table_fault.Statement.{statement}
-use Rattle.sheet.proofs.table_fault.Tie as tie
+use Rattle.sheet.proofs.sessions.table_fault.Statement.{statement}
+use Rattle.sheet.proofs.sessions.table_fault.Tie as tie
 
 abbrev curve : tie.Start → Curve
 curve s = curveOf (now (s .args .table)) (s .args .rate .0)

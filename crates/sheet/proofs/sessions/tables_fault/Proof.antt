@@ -8,8 +8,8 @@ use Rattle.sheet.specs.Bytes.{envelopePlace, sessionOf}
 use Rattle.sheet.specs.Refusal.{first, first-found, first-clear}
 use Rattle.sheet.specs.Reading.{tableLines, tablesLines}
 use Rattle.sheet.specs.Told.{fault, tableIn, service-in, envelope-in}
-use Rattle.sheet.proofs.tables_fault.Statement.{statement}
-use Rattle.sheet.proofs.tables_fault.Tie as tie
+use Rattle.sheet.proofs.sessions.tables_fault.Statement.{statement}
+use Rattle.sheet.proofs.sessions.tables_fault.Tie as tie
 
 -- what is found of the service
 service : (c : tie.After-table-fault)

@@ -1,8 +1,8 @@
 -- The two tests are the definition's. Assumes nothing.
 use mathlib.Core.Path.{sym}
 use Rattle.sheet.specs.Refusal.{outside-low, outside-high, within}
-use Rattle.sheet.proofs.outside.Statement.{statement}
-use Rattle.sheet.proofs.outside.Tie as tie
+use Rattle.sheet.proofs.head.outside.Statement.{statement}
+use Rattle.sheet.proofs.head.outside.Tie as tie
 
 returns : tie.Need-returns
 returns c = sym (outside-low _ _ _ (c .if1 .taken))

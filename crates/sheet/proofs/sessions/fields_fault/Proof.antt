@@ -10,8 +10,8 @@ use lib.ListN.{length, drop}
 use Rattle.sheet.specs.Refusal.{first, first-here, first-next, clear-nil}
 use Rattle.sheet.specs.Bytes.{recordBytes}
 use Rattle.sheet.specs.Reading.{fieldLines}
-use Rattle.sheet.proofs.fields_fault.Statement.{statement}
-use Rattle.sheet.proofs.fields_fault.Tie as tie
+use Rattle.sheet.proofs.sessions.fields_fault.Statement.{statement}
+use Rattle.sheet.proofs.sessions.fields_fault.Tie as tie
 
 -- after k lines that do not apply
 abbrev Past : ℕ → tie.Start → Type 0

@@ -6,8 +6,8 @@ use Rattle.sheet.specs.Refusal.{Clear, first-found, first-clear}
 use Rattle.sheet.specs.Reading.{fieldLines, sessionLines}
 use Rattle.sheet.specs.Clears.{clear-fields}
 use Rattle.sheet.specs.Told.{fault}
-use Rattle.sheet.proofs.session_fault.Statement.{statement}
-use Rattle.sheet.proofs.session_fault.Tie as tie
+use Rattle.sheet.proofs.sessions.session_fault.Statement.{statement}
+use Rattle.sheet.proofs.sessions.session_fault.Tie as tie
 
 -- no field's line applies
 clear : (c : tie.After-enum-told) → Clear (fieldLines (c .before .before .before .before .args .period .0) (now (c .before .before .before .before .args .rest)) (c .before .before .before .before .args .place))
