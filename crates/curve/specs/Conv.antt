@@ -2,11 +2,16 @@
 use mathlib.Core.Path.{_≡_}
 use Prim.Native.Nat.{ℕ, _+_, _-_, _≤_}
 use native.Mathlib.Omega.{arith}
-use Rattle.curve.specs.Least.{least, least-le, least-attained}
+use Rattle.curve.specs.Least.{least, least-le, least-attained, least-zero}
 
 -- (b*S)(t) is the least of b(s) + S(t-s) over s = 0..t
 unfoldable pub conv : (ℕ → ℕ) → (ℕ → ℕ) → ℕ → ℕ
 conv b S t = least (λ s. b s + S (t - s)) t
+
+-- over no slots
+pub conv-none : (b S : ℕ → ℕ) → conv b S 0 ≡ b 0 + S 0
+unfolding conv
+conv-none b S = least-zero _
 
 module _ (b S : ℕ → ℕ) (t : ℕ) where
   -- at most each way to share t slots between b and S

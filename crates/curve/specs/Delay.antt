@@ -87,10 +87,10 @@ complete f q k m x y hx qx hy l qy = go (find-found f q k m y hy l qy)
         here (inr a) = absurd (omega (arith, g .before x hx a))
 
 -- nothing that a search finds comes before its start
-from : (f : ℕ → ℕ) (q k m x : ℕ) → T (come (find f q k m) x) → m ≤ x
+pub find-from : (f : ℕ → ℕ) (q k m x : ℕ) → T (come (find f q k m) x) → m ≤ x
 unfolding come find
-from f q zero m x h = absurd h
-from f q (suc k) m x h = go (leb q (f m)) h (from f q k (suc m) x)
+find-from f q zero m x h = absurd h
+find-from f q (suc k) m x h = go (leb q (f m)) h (find-from f q k (suc m) x)
   where
     go : (b : Bool) → T (come (elim b [ true ↦ slot m | false ↦ find f q k (suc m) ]) x) → (T (come (find f q k (suc m)) x) → suc m ≤ x) → m ≤ x
     go true t ih = leb→le m x t
@@ -99,6 +99,11 @@ from f q (suc k) m x h = go (leb q (f m)) h (from f q k (suc m) x)
 -- what is asked of D: for m ≥ 1, D(q) has come by m exactly when S(m) ≥ q
 abbrev pub Delays : (ℕ → Due) → (ℕ → ℕ) → Type 0
 Delays D S = (q m : ℕ) → 1 ≤ m → T (come (D q) m) ↔ (q ≤ S m)
+
+-- a search from 1 on does it for any function that never falls, where k q tries are enough for what it ever gives
+pub find-delays : (f k : ℕ → ℕ) → Rises f → ((q : ℕ) → 1 ≤ k q) → ((q x : ℕ) → q ≤ f x → q ≤ f (k q)) → Delays (λ q. find f q (k q) 1) f
+find-delays f k rises some enough q m h =
+    (sound f rises q (k q) 1 m, λ a. complete f q (k q) 1 m (k q) h a (some q) (omega arith) (enough q m a))
 
 -- two that have come at the same slots are one
 pub due-ext : (d e : Due) → ((t : ℕ) → T (come d t) ↔ T (come e t)) → d ≡ e
@@ -116,15 +121,19 @@ pub record First (f : ℕ → ℕ) (q m : ℕ) : Type 0 where
   pub reaches : q ≤ f m
   pub before : (x : ℕ) → 1 ≤ x → x < m → f x < q
 
+-- no D(q) has come before slot 1
+pub delay-from : (P : ℕ) (S : Curve) (q t : ℕ) → T (come (delay P S q) t) → 1 ≤ t
+unfolding delay
+delay-from P S q t = find-from (at P S) q (length (S .table) + q * P) 1 t
+
 module _ (P : ℕ) (S : Curve) (good : IsCurve P S) where
   -- D LAW: D(q) ≤ m exactly when q ≤ S(m), for m ≥ 1 and every rate
   pub delay-law : Delays (delay P S) (at P S)
   unfolding delay
-  delay-law q m h =
+  delay-law =
       let p : 1 ≤ P = good .period in
       let l : P ≤ length (S .table) = good .long in
-      let n : ℕ = length (S .table) + q * P in
-      (sound (at P S) (at-rises P S good) q n 1 m, λ a. complete (at P S) q n 1 m n h a (omega arith) (omega arith) (at-within P S good q m a))
+      find-delays (at P S) (λ q. length (S .table) + q * P) (at-rises P S good) (λ q. omega arith) (at-within P S good)
 
   -- D(q) is the least, where there is one
   pub delay-is : (q m : ℕ) → First (at P S) q m → delay P S q ≡ slot m
@@ -135,7 +144,7 @@ module _ (P : ℕ) (S : Curve) (good : IsCurve P S) where
       there t h = go (le-or-lt m t)
         where
           one : 1 ≤ t
-          one = from (at P S) q (length (S .table) + q * P) 1 t h
+          one = delay-from P S q t h
 
           go : (m ≤ t) ⊎ (t < m) → T (leb m t)
           go (inl a) = le→leb m t a
@@ -153,5 +162,5 @@ module _ (P : ℕ) (S : Curve) (good : IsCurve P S) where
     where
       none : (t : ℕ) → T (come (delay P S q) t) → ⊥
       none t k =
-          let one : 1 ≤ t = from (at P S) q (length (S .table) + q * P) 1 t k in
+          let one : 1 ≤ t = delay-from P S q t k in
           omega (arith, h t one, (delay-law q t one) .0 k)

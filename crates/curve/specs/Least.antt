@@ -1,7 +1,7 @@
 -- The least of f(0)..f(t), which 01 takes for (b*S), for headroom and for what is promised. Assumes nothing.
 use mathlib.Core.Path.{_≡_, refl}
 use mathlib.Core.Logic.{_⊎_, inl, inr}
-use Prim.Native.Nat.{ℕ, zero, suc, _≤_, _<_, min}
+use Prim.Native.Nat.{ℕ, zero, suc, _+_, _-_, _≤_, _<_, min}
 use native.Mathlib.Omega.{arith}
 use Rattle.curve.specs.Order.{le-or-lt, le-suc-cases}
 
@@ -55,3 +55,14 @@ pub least-cong : (f g : ℕ → ℕ) (t : ℕ) → ((s : ℕ) → s ≤ t → f 
 unfolding least
 least-cong f g zero h = h zero (omega arith)
 least-cong f g (suc t) h = rw (least-cong f g t (λ s l. h s (omega arith)), h (suc t) (omega arith))
+
+-- the least of values that all have k more, or k fewer
+pub least-add : (f : ℕ → ℕ) (k t : ℕ) → least (λ s. f s + k) t ≡ least f t + k
+unfolding least
+least-add f k zero = refl
+least-add f k (suc t) = omega (arith, least-add f k t)
+
+pub least-sub : (f : ℕ → ℕ) (k t : ℕ) → least (λ s. f s - k) t ≡ least f t - k
+unfolding least
+least-sub f k zero = refl
+least-sub f k (suc t) = omega (arith, least-sub f k t)

@@ -99,7 +99,7 @@ pub clear-nil : Clear []
 unfolding first
 clear-nil = refl
 
-refused-none : {number place : ℕ} → refused number place ≡ none → ⊥
+pub refused-none : {number place : ℕ} → refused number place ≡ none → ⊥
 refused-none e =
     let z : _≡_ {A = ℕ} 0 1 = cc in
     omega arith

@@ -4,19 +4,13 @@ ghost use Rattle.sheet.specs.Refusal.{first, outside};
 ghost use Rattle.sheet.specs.Reading.{headLines};
 ghost use Rattle.sheet.specs.Told.{fault};
 use crate::Fault;
-use crate::HEAD_BYTES;
-
-const LENGTH_BYTES: usize = 4;
-
-const MOST_FOLLOWING: u32 = 4212;
-
-const VERSION: u32 = 1;
-
-const MOST_CAPACITY: u32 = 64;
-
-const LONGEST_PERIOD: u32 = 16;
-
-const MOST_SESSIONS: u32 = 16;
+use crate::limits::HEAD_BYTES;
+use crate::limits::LENGTH_BYTES;
+use crate::limits::LONGEST_PERIOD;
+use crate::limits::MOST_CAPACITY;
+use crate::limits::MOST_FOLLOWING;
+use crate::limits::MOST_SESSIONS;
+use crate::limits::VERSION;
 
 // Whether x lies outside low..high.
 pub fn outside(low: u32, high: u32, x: u32) -> bool

@@ -3,14 +3,13 @@ ghost use mathlib.Core.Path.{_≡_};
 ghost use Rattle.sheet.specs.Refusal.{Clear};
 ghost use Rattle.sheet.specs.Reading.{headLines};
 ghost use Rattle.sheet.specs.Told.{noStarts, Reads};
+use crate::limits::HEAD_BYTES;
 use curve::Packets;
 use curve::Slots;
 
 pub mod head;
+pub mod limits;
 pub mod sessions;
-
-// The bytes before the first session.
-const HEAD_BYTES: usize = 8;
 
 // What a sheet's bytes are.
 pub enum Outcome {

@@ -14,17 +14,12 @@ use crate::Fault;
 use crate::Session;
 use crate::Table;
 use crate::head::outside;
+use crate::limits::FIXED_BYTES;
+use crate::limits::LARGEST_RATE;
+use crate::limits::LARGEST_VALUE;
+use crate::limits::LONGEST_TABLE;
 use curve::Packets;
 use curve::Slots;
-
-// A session's bytes before its tables.
-const FIXED_BYTES: usize = 7;
-
-const LONGEST_TABLE: u32 = 64;
-
-const LARGEST_VALUE: u32 = 500;
-
-const LARGEST_RATE: u32 = 256;
 
 // Refusal 10 of a table's values, which start at `place`.
 fn values_fault(table: &[u8], place: u32) -> Fault

@@ -7,14 +7,19 @@ use lib.ListN.{length, getD, take, drop, length-drop}
 use Rattle.curve.specs.Curve.{Curve, at}
 use Rattle.curve.specs.Bounds.{at-most}
 use Rattle.curve.specs.Lookup.{Sized}
+use Rattle.curve.specs.declared.Packets.{Packets}
+use Rattle.curve.specs.declared.Slots.{Slots}
 use Rattle.sheet.specs.Limits.{mostCapacity, mostSessions, longestPeriod}
 use Rattle.sheet.specs.Refusal.{none}
 use Rattle.sheet.specs.Sheet.{Sheet, session, sessionCount, WellMadeCurve, WellMadeSession, WellMade}
 use Rattle.sheet.specs.Bytes.{capacityOf, periodOf, countOf, recordBytes, sessionOf, sheetOf}
 use Rattle.sheet.specs.Reading.{reading}
 use Rattle.sheet.specs.Starts.{startOf, count-is, session-at, start-fits}
-use Rattle.sheet.specs.Told.{SessionIn, tableIn, service-in, envelope-in}
+use Rattle.sheet.specs.Makes.{AllBytes, makes}
+use Rattle.sheet.specs.Told.{SessionIn, tableIn, service-in, envelope-in, Reads}
+use Rattle.sheet.specs.Tells.{read-tells}
 use Rattle.sheet.specs.Walk.{from-here}
+use Rattle.sheet.specs.declared.Outcome.the-variants.{Read}
 use Rattle.sheet.specs.declared.Session.{Session}
 use Rattle.verdict.specs.Load.{Tables}
 
@@ -27,6 +32,20 @@ pub record Ready (bytes starts : List ℕ) (count c P : ℕ) : Type 0 where
   pub period : P ≡ periodOf bytes
   pub sixteen : length starts ≡ mostSessions
   pub each : (i : ℕ) → i < count → getD starts i 0 ≡ startOf bytes i
+
+-- so it is when the reader says so
+pub ready-from : (bytes : List ℕ) (c : Packets) (period : Slots) (m : ℕ) (starts : List ℕ) → AllBytes bytes → Reads bytes (Read c period m) starts → Ready bytes starts m (c .0) (period .0)
+ready-from bytes c period m starts all r =
+    let t = read-tells bytes c period m starts r in
+    record {
+      reads = t .reads;
+      made = makes bytes all (t .reads);
+      count-is = t .count;
+      capacity = t .capacity;
+      period = t .period-is;
+      sixteen = r .sixteen;
+      each = t .each;
+    }
 
 -- a session whose bytes start with `rest`, taken apart, is well made under the period P
 pub record Drawn (P : ℕ) (rest : List ℕ) (s : Session) : Type 0 where

@@ -14,13 +14,12 @@ use curve::Packets;
 use curve::Slots;
 use sheet::Outcome;
 use sheet::Session;
+use sheet::limits::LONGEST_TABLE;
 
 // The walk over slot counts has settled here at the latest; the proofs say why.
 const WALK_END: u32 = 131216;
 // Past this slot count no two tables of a session reach, so the loads bend.
 const BOTH_TABLES: u32 = 128;
-
-const LONGEST_TABLE: u32 = 64;
 
 pub enum Verdict {
     // The slack, and the least slot count that gives it.

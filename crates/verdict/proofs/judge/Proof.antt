@@ -3,9 +3,9 @@ use mathlib.Core.Path.{_≡_, sym, ap, _∙_}
 use native.Mathlib.Omega.{arith}
 use borrow.Author.Needs.{needs}
 use denote.Ref.{now}
-use Rattle.sheet.specs.Makes.{AllBytes, makes}
-use Rattle.sheet.specs.Tells.{refused-tells, read-tells}
-use Rattle.verdict.specs.Ready.{Ready}
+use Rattle.sheet.specs.Makes.{AllBytes}
+use Rattle.sheet.specs.Tells.{refused-tells}
+use Rattle.verdict.specs.Ready.{Ready, ready-from}
 use Rattle.verdict.specs.Figured.{figures-none}
 use Rattle.verdict.proofs.judge.Statement.{statement}
 use Rattle.verdict.proofs.judge.Tie as tie
@@ -17,19 +17,7 @@ all-bytes c i = omega (arith, c .shared-slice-known .given i)
 -- bytes that read make a sheet that is ready
 ready : (c : tie.After-known-told2)
     → Ready (now (c .before .before .before .before .before .before .args .bytes)) (c .before .before .before .before .read .result .starts) (c .before .outcome2 .given .0 .1 .1 .0) (c .before .outcome2 .given .0 .0 .0) (c .before .outcome2 .given .0 .1 .0 .0)
-ready c =
-    let bytes = now (c .before .before .before .before .before .before .args .bytes) in
-    let r = c .before .before .before .before .read .ensures in
-    let t = read-tells bytes _ _ _ _ (rw (c .before .outcome2 .given .1) at r) in
-    record {
-      reads = t .reads;
-      made = makes bytes (all-bytes (c .before .before .before .before .before)) (t .reads);
-      count-is = t .count;
-      capacity = t .capacity;
-      period = t .period-is;
-      sixteen = r .sixteen;
-      each = t .each;
-    }
+ready c = ready-from (now (c .before .before .before .before .before .before .args .bytes)) _ _ _ _ (all-bytes (c .before .before .before .before .before)) (rw (c .before .outcome2 .given .1) at (c .before .before .before .before .read .ensures))
 
 read-requires : tie.Need-read-requires
 read-requires c κs = search needs

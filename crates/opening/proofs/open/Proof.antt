@@ -1,0 +1,63 @@
+-- Each answer is that of the verdict's case. Assumes nothing.
+use mathlib.Core.Path.{_≡_, sym, ap, _∙_}
+use native.Mathlib.Omega.{arith}
+use borrow.Author.Needs.{needs}
+use denote.Ref.{now}
+use Rattle.verdict.specs.Verdict.{passed, failed, unreadable}
+use Rattle.opening.specs.Open.{opens-short, opens-by}
+use Rattle.opening.proofs.open.Statement.{statement}
+use Rattle.opening.proofs.open.Tie as tie
+
+returns : tie.Need-returns
+returns c = opens-short _ _ (c .if1 .taken)
+
+judge-requires : tie.Need-judge-requires
+judge-requires c κs = search needs
+
+enum-known-v : tie.Need-enum-known-v
+enum-known-v c = search needs
+
+enum-known-v-2 : tie.Need-enum-known-v-2
+enum-known-v-2 c = search needs
+
+enum-told : tie.Need-enum-told
+enum-told c = search needs
+
+fill-requires : tie.Need-fill-requires
+fill-requires c κs =
+    let says = rw (c .before .enum-told .given .1) at (c .before .before .before .judge .ensures .says) in
+    (says .0, c .before .before .before .before .if1 .left)
+
+returns-2 : tie.Need-returns-2
+returns-2 c =
+    let s = c .before .before .before .before .before .before .before in
+    opens-by (now (s .args .bytes)) (now (s .args .run)) (unreadable _ _) (c .before .before .before .before .if1 .left) (rw (c .before .v .given .1) at (c .before .before .before .judge .ensures .says))
+
+returns-3 : tie.Need-returns-3
+returns-3 c =
+    let s = c .before .before .before .before .before .before .before in
+    opens-by (now (s .args .bytes)) (now (s .args .run)) (failed _) (c .before .before .before .before .if1 .left) (rw (c .before .v2 .given .1) at (c .before .before .before .judge .ensures .says))
+
+same-length : tie.Need-same-length
+same-length c = search needs
+
+returns-4 : tie.Need-returns-4
+returns-4 c =
+    let s = c .before .before .before .before .before .before .before .before .before .before in
+    rw (c .before .before .fill .ensures .0, c .before .before .fill .ensures .1)
+    (opens-by (now (s .args .bytes)) (now (s .args .run)) (passed _ _) (c .before .before .before .before .before .before .before .if1 .left) (rw (c .before .before .before .before .enum-told .given .1) at (c .before .before .before .before .before .before .judge .ensures .says)))
+
+pub open-spec : {M : Type 1} → statement M
+open-spec =
+    tie.close
+    (tie.spec
+    returns
+    judge-requires
+    enum-known-v
+    enum-known-v-2
+    enum-told
+    fill-requires
+    returns-2
+    returns-3
+    same-length
+    returns-4)

@@ -1,0 +1,20 @@
+-- One slot over the whole history, as document 01 has it (Deadline, Model), what a sheet that passes promises (Main, Base), and the laws of a run.
+pub mod Count
+pub mod Pick
+pub mod Core
+pub mod Deadline
+pub mod Steps
+pub mod Model
+pub mod Curves
+pub mod Order
+pub mod Facts
+pub mod Arrived
+pub mod Intake
+pub mod Theorem
+pub mod Main
+pub mod Base
+pub mod Laws
+pub mod Turn
+pub mod Ahead
+pub mod Tables
+pub mod Examples

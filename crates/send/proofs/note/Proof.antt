@@ -1,0 +1,70 @@
+-- Three numbers, one after the other. Assumes nothing.
+use mathlib.Core.Path.{refl}
+use native.Mathlib.Omega.{arith}
+use lib.ListN.{length-set}
+use Rattle.send.specs.Send.{note}
+use borrow.Author.Needs.{needs}
+use Rattle.send.proofs.note.Statement.{statement}
+use Rattle.send.proofs.note.Tie as tie
+
+mul-notes : tie.Need-mul-notes
+mul-notes c = search needs
+
+add-notes : tie.Need-add-notes
+add-notes c = search needs
+
+mul-notes-2 : tie.Need-mul-notes-2
+mul-notes-2 c = search needs
+
+slice-write-notes : tie.Need-slice-write-notes
+slice-write-notes c = search needs
+
+mul-notes-3 : tie.Need-mul-notes-3
+mul-notes-3 c = search needs
+
+add-notes-2 : tie.Need-add-notes-2
+add-notes-2 c = search needs
+
+mul-notes-4 : tie.Need-mul-notes-4
+mul-notes-4 c = search needs
+
+slice-write-notes-2 : tie.Need-slice-write-notes-2
+slice-write-notes-2 c = simp length-set (omega arith)
+
+mul-notes-5 : tie.Need-mul-notes-5
+mul-notes-5 c = search needs
+
+add-notes-3 : tie.Need-add-notes-3
+add-notes-3 c = search needs
+
+mul-notes-6 : tie.Need-mul-notes-6
+mul-notes-6 c = search needs
+
+slice-write-notes-3 : tie.Need-slice-write-notes-3
+slice-write-notes-3 c = simp length-set (omega arith)
+
+same-length : tie.Need-same-length
+same-length c = search needs
+
+returns : tie.Need-returns
+unfolding note
+returns c = refl
+
+pub note-spec : {M : Type 1} → statement M
+note-spec =
+    tie.close
+    (tie.spec
+    mul-notes
+    add-notes
+    mul-notes-2
+    slice-write-notes
+    mul-notes-3
+    add-notes-2
+    mul-notes-4
+    slice-write-notes-2
+    mul-notes-5
+    add-notes-3
+    mul-notes-6
+    slice-write-notes-3
+    same-length
+    returns)

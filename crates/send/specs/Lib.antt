@@ -1,0 +1,6 @@
+-- The packets that leave in a slot, in their order.
+pub mod Choice
+pub mod Send
+pub mod Sent
+pub mod Notes
+pub mod SentSound
