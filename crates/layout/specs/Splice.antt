@@ -7,6 +7,8 @@ use native.Mathlib.Omega.{arith}
 use lib.ListN.{length, getD, take, drop, replicate, length-append, length-drop, length-replicate, getD-replicate, List·getD-append, List·getD-eq-default}
 use lib.Seq.{ext-getD, length-take-le, getD-take, getD-drop, getD-append-add}
 use Rattle.curve.specs.Order.{le-or-lt}
+use Rattle.layout.specs.Layout.{part}
+use Rattle.layout.specs.Part.{part-same}
 use Rattle.layout.specs.Over.{over, length-over, over-out, over-in}
 
 -- a number of a list of zeros
@@ -96,3 +98,11 @@ over-append l r a y f =
         let e : a + (i - a) ≡ i = omega arith in
         (rw e at (over-in (l ++ r) a y (omega (arith, whole)) (i - a) (omega arith)))
         ∙ sym (List·getD-append (over l a y) r 0 i (omega (arith, n)) ∙ (rw e at (over-in l a y f (i - a) (omega arith))))
+
+-- a part that what is written does not meet stays
+pub over-apart : (l : List ℕ) (a : ℕ) (new : List ℕ) (b w : ℕ) → b + w ≤ length l → (b + w ≤ a) ⊎ (a + length new ≤ b) → part b w (over l a new) ≡ part b w l
+over-apart l a new b w h d = part-same l (over l a new) b w (length-over l a new) h (λ i q. over-out l a new (b + i) (go i q d))
+  where
+    go : (i : ℕ) → i < w → (b + w ≤ a) ⊎ (a + length new ≤ b) → (b + i < a) ⊎ (a + length new ≤ b + i)
+    go i q (inl s) = inl (omega arith)
+    go i q (inr s) = inr (omega arith)

@@ -1,0 +1,220 @@
+-- What a slot's intake makes of a run's sessions in order, each by its own block, and the three numbers that it tells of each session. Assumes nothing.
+use mathlib.Core.Path.{_≡_, refl, sym, ap, ap₂, subst, _∙_}
+use mathlib.Core.List.{List, _++_}
+use mathlib.Core.Logic.{_⊎_, inl, inr}
+use Prim.Native.Nat.{ℕ, zero, suc, _+_, _-_, _*_, _≤_, _<_}
+use native.Mathlib.Numerals.{add-one}
+use native.Mathlib.Omega.{arith}
+use lib.ListN.{length, getD, set, take, drop, length-set}
+use lib.Seq.{getD-set-same, getD-set-other}
+use Rattle.curve.specs.Order.{le-or-lt}
+use Rattle.curve.specs.Rises.{IsCurve}
+use Rattle.sheet.specs.Limits.{mostSessions}
+use Rattle.layout.specs.Layout.{runNumbers, headNumbers, blockNumbers, blockAt, part, block, service, envelope}
+use Rattle.layout.specs.Sound.{Sound, mostSlots}
+use Rattle.layout.specs.Part.{part-length, part-lent}
+use Rattle.layout.specs.Over.{over, length-over, over-out, over-part}
+use Rattle.layout.specs.Splice.{over-apart, over-splice}
+use Rattle.intake.specs.Share.{shareOf}
+use Rattle.intake.specs.Intake.{intakeOf, length-tookIn}
+use Rattle.intake.specs.Keeps.{intake-sound}
+use Rattle.intake.specs.declared.Share.{Share}
+
+-- a run whose first `count` blocks are sound
+pub record AllSound (run : List ℕ) (count P done : ℕ) : Type 0 where
+  pub few : count ≤ mostSessions
+  pub size : runNumbers ≤ length run
+  pub sound : (i : ℕ) → i < count → Sound (block run i) P done
+
+-- three numbers are told of a session, in this order: taken in, over, no room
+abbrev pub outcomeNumbers : ℕ
+outcomeNumbers = 3
+
+abbrev pub takenOutcome : ℕ → ℕ
+takenOutcome i = outcomeNumbers * i
+
+abbrev pub overOutcome : ℕ → ℕ
+overOutcome i = outcomeNumbers * i + 1
+
+abbrev pub noRoomOutcome : ℕ → ℕ
+noRoomOutcome i = outcomeNumbers * i + 2
+
+-- the share of session i: its own block decides, as it was before the slot
+abbrev pub shareAt : List ℕ → List ℕ → ℕ → Share
+shareAt run offers i = shareOf (block run i) (getD offers i 0)
+
+-- the run when so many sessions have had their intake
+unfoldable pub intakesOf : List ℕ → List ℕ → ℕ → ℕ → ℕ → List ℕ
+intakesOf run offers P done zero = run
+intakesOf run offers P done (suc i) = over (intakesOf run offers P done i) (blockAt i) (intakeOf (block run i) P done (getD offers i 0))
+
+abbrev pub told : List ℕ → ℕ → Share → List ℕ
+told outcomes i s = set (set (set outcomes (takenOutcome i) (s .taken)) (overOutcome i) (s .over)) (noRoomOutcome i) (s .«no_room»)
+
+-- and the outcomes
+unfoldable pub outcomesOf : List ℕ → List ℕ → List ℕ → ℕ → List ℕ
+outcomesOf run offers outcomes zero = outcomes
+outcomesOf run offers outcomes (suc i) = told (outcomesOf run offers outcomes i) i (shareAt run offers i)
+
+module _ (run offers : List ℕ) (P done : ℕ) where
+  pub intakes-none : intakesOf run offers P done 0 ≡ run
+  unfolding intakesOf
+  intakes-none = refl
+
+  pub length-intakes : (n : ℕ) → length (intakesOf run offers P done n) ≡ length run
+  unfolding intakesOf
+  length-intakes zero = refl
+  length-intakes (suc i) = length-over (intakesOf run offers P done i) (blockAt i) _ ∙ length-intakes i
+
+  module _ (size : runNumbers ≤ length run) where
+    new-length : (i : ℕ) → i < mostSessions → length (intakeOf (block run i) P done (getD offers i 0)) ≡ blockNumbers
+    new-length i h = length-tookIn (block run i) P done _ ∙ part-length run (blockAt i) blockNumbers (omega arith)
+
+    -- a block whose turn has not come is as it was
+    pub intakes-later : (n : ℕ) → n ≤ mostSessions → (j : ℕ) → n ≤ j → j < mostSessions → block (intakesOf run offers P done n) j ≡ block run j
+    unfolding intakesOf
+    intakes-later zero h j a b = refl
+    intakes-later (suc i) h j a b =
+        let l = length-intakes i in
+        let k = new-length i h in
+        over-apart (intakesOf run offers P done i) (blockAt i) (intakeOf (block run i) P done (getD offers i 0)) (blockAt j) blockNumbers (omega arith) (inr (omega arith))
+        ∙ intakes-later i (omega arith) j (omega arith) b
+
+    -- the others are their own intake
+    pub intakes-each : (n : ℕ) → n ≤ mostSessions → (j : ℕ) → j < n → block (intakesOf run offers P done n) j ≡ intakeOf (block run j) P done (getD offers j 0)
+    unfolding intakesOf
+    intakes-each zero h j b = absurd (omega arith)
+    intakes-each (suc i) h j b = go (intakes-each i (omega arith) j) (le-or-lt i j)
+      where
+        go : (j < i → block (intakesOf run offers P done i) j ≡ intakeOf (block run j) P done (getD offers j 0)) → (i ≤ j) ⊎ (j < i)
+            → block (over (intakesOf run offers P done i) (blockAt i) (intakeOf (block run i) P done (getD offers i 0))) j ≡ intakeOf (block run j) P done (getD offers j 0)
+        go ih (inl a) =
+            let e : j ≡ i = omega arith in
+            let l = length-intakes i in
+            let k = new-length i h in
+            rw e (ap (λ w. part (blockAt i) w (over (intakesOf run offers P done i) (blockAt i) (intakeOf (block run i) P done (getD offers i 0)))) (sym k)
+            ∙ over-part (intakesOf run offers P done i) (blockAt i) (intakeOf (block run i) P done (getD offers i 0)) (omega arith))
+        go ih (inr a) =
+            let l = length-intakes i in
+            let k = new-length i h in
+            over-apart (intakesOf run offers P done i) (blockAt i) (intakeOf (block run i) P done (getD offers i 0)) (blockAt j) blockNumbers (omega arith) (inl (omega arith))
+            ∙ ih a
+
+    -- the head, and the numbers past the run's, are as they were
+    pub intakes-out : (n : ℕ) → n ≤ mostSessions → (x : ℕ) → (x < headNumbers) ⊎ (runNumbers ≤ x) → getD (intakesOf run offers P done n) x 0 ≡ getD run x 0
+    unfolding intakesOf
+    intakes-out zero h x d = refl
+    intakes-out (suc i) h x d = over-out (intakesOf run offers P done i) (blockAt i) (intakeOf (block run i) P done (getD offers i 0)) x (go d) ∙ intakes-out i (omega arith) x d
+      where
+        go : (x < headNumbers) ⊎ (runNumbers ≤ x) → (x < blockAt i) ⊎ (blockAt i + length (intakeOf (block run i) P done (getD offers i 0)) ≤ x)
+        go (inl a) = inl (omega arith)
+        go (inr a) = inr (omega (arith, new-length i h))
+
+    -- one more session: its block is lent, and comes back
+    pub block-lent : (i : ℕ) → i < mostSessions → (z : List ℕ) → z ≡ intakesOf run offers P done i → take (blockAt i + blockNumbers - blockAt i) (drop (blockAt i) z) ≡ block run i
+    block-lent i h z e = part-lent z (blockAt i) blockNumbers ∙ ap (λ (y : List ℕ). block y i) e ∙ intakes-later i (omega arith) i (omega arith) h
+
+    pub intakes-more : (i : ℕ) → i < mostSessions → (z y : List ℕ) → z ≡ intakesOf run offers P done i → y ≡ intakeOf (block run i) P done (getD offers i 0)
+        → take (blockAt i) z ++ (y ++ drop (blockAt i + blockNumbers - blockAt i) (drop (blockAt i) z)) ≡ intakesOf run offers P done (i + 1)
+    unfolding intakesOf
+    intakes-more i h z y e f =
+        let l = ap length e ∙ length-intakes i in
+        let k = ap length f ∙ new-length i h in
+        over-splice z (blockAt i) (blockAt i + blockNumbers - blockAt i) y (omega arith) (omega arith)
+        ∙ ap₂ (λ (u v : List ℕ). over u (blockAt i) v) e f
+        ∙ ap (intakesOf run offers P done) (sym (add-one i))
+
+-- the blocks stay sound where their curves are curves
+pub intakes-sound : (run offers : List ℕ) (count P done : ℕ) → AllSound run count P done → done < mostSlots
+    → ((i : ℕ) → i < count → IsCurve P (service (block run i)) × IsCurve P (envelope (block run i)))
+    → AllSound (intakesOf run offers P done count) count P done
+intakes-sound run offers count P done ok more curves =
+    record {
+      few = ok .few;
+      size = omega (arith, length-intakes run offers P done count, ok .size);
+      sound = λ i h.
+          subst (λ (b : List ℕ). Sound b P done) (sym (intakes-each run offers P done (ok .size) count (ok .few) i h))
+          (intake-sound (block run i) P done (getD offers i 0) (ok .sound i h) more (curves i h .0) (curves i h .1));
+    }
+
+-- the three numbers of session i are these
+pub record Tells (outcomes : List ℕ) (i : ℕ) (s : Share) : Type 0 where
+  pub taken : getD outcomes (takenOutcome i) 0 ≡ s .taken
+  pub over : getD outcomes (overOutcome i) 0 ≡ s .over
+  pub no-room : getD outcomes (noRoomOutcome i) 0 ≡ s .«no_room»
+
+module _ (l : List ℕ) (i : ℕ) (s : Share) where
+  unfoldable one : List ℕ
+  one = set l (takenOutcome i) (s .taken)
+
+  unfoldable two : List ℕ
+  two = set (set l (takenOutcome i) (s .taken)) (overOutcome i) (s .over)
+
+  told-other : (x : ℕ) → (x < takenOutcome i) ⊎ (outcomeNumbers * (i + 1) ≤ x) → getD (told l i s) x 0 ≡ getD l x 0
+  unfolding one two
+  told-other x d =
+      getD-set-other two (noRoomOutcome i) x (s .«no_room») 0 (λ e. far d (omega arith, omega arith))
+      ∙ getD-set-other one (overOutcome i) x (s .over) 0 (λ e. far d (omega arith, omega arith))
+      ∙ getD-set-other l (takenOutcome i) x (s .taken) 0 (λ e. far d (omega arith, omega arith))
+    where
+      far : (x < takenOutcome i) ⊎ (outcomeNumbers * (i + 1) ≤ x) → ((takenOutcome i ≤ x) × (x < outcomeNumbers * (i + 1))) → ⊥
+      far (inl a) h = omega arith
+      far (inr a) h = omega arith
+
+  told-here : outcomeNumbers * (i + 1) ≤ length l → Tells (told l i s) i s
+  unfolding one two
+  told-here h =
+      let k : length one ≡ length l = length-set l (takenOutcome i) (s .taken) in
+      let m : length two ≡ length one = length-set one (overOutcome i) (s .over) in
+      record {
+        taken =
+            getD-set-other two (noRoomOutcome i) (takenOutcome i) (s .«no_room») 0 (omega arith)
+            ∙ getD-set-other one (overOutcome i) (takenOutcome i) (s .over) 0 (omega arith)
+            ∙ getD-set-same l (takenOutcome i) (s .taken) 0 (omega arith);
+        over =
+            getD-set-other two (noRoomOutcome i) (overOutcome i) (s .«no_room») 0 (omega arith)
+            ∙ getD-set-same one (overOutcome i) (s .over) 0 (omega arith);
+        no-room = getD-set-same two (noRoomOutcome i) (s .«no_room») 0 (omega arith);
+      }
+
+module _ (run offers outcomes : List ℕ) where
+  pub outcomes-none : outcomesOf run offers outcomes 0 ≡ outcomes
+  unfolding outcomesOf
+  outcomes-none = refl
+
+  pub length-outcomes : (n : ℕ) → length (outcomesOf run offers outcomes n) ≡ length outcomes
+  unfolding outcomesOf
+  length-outcomes zero = refl
+  length-outcomes (suc i) = simp length-set (length-outcomes i)
+
+  -- one more session
+  pub outcomes-more : (i : ℕ) (z : List ℕ) (s : Share) → z ≡ outcomesOf run offers outcomes i → s ≡ shareAt run offers i → told z i s ≡ outcomesOf run offers outcomes (i + 1)
+  unfolding outcomesOf
+  outcomes-more i z s e f = ap₂ (λ (y : List ℕ) (t : Share). told y i t) e f ∙ ap (outcomesOf run offers outcomes) (sym (add-one i))
+
+  -- a number that is not of the sessions told is as it was
+  pub outcomes-past : (n x : ℕ) → outcomeNumbers * n ≤ x → getD (outcomesOf run offers outcomes n) x 0 ≡ getD outcomes x 0
+  unfolding outcomesOf
+  outcomes-past zero x h = refl
+  outcomes-past (suc i) x h =
+      told-other (outcomesOf run offers outcomes i) i (shareAt run offers i) x (inr (omega arith)) ∙ outcomes-past i x (omega arith)
+
+  -- each session told has its three numbers
+  pub outcomes-each : (n : ℕ) → outcomeNumbers * n ≤ length outcomes → (j : ℕ) → j < n → Tells (outcomesOf run offers outcomes n) j (shareAt run offers j)
+  unfolding outcomesOf
+  outcomes-each zero h j b = absurd (omega arith)
+  outcomes-each (suc i) h j b = go (outcomes-each i (omega arith) j) (le-or-lt i j)
+    where
+      go : (j < i → Tells (outcomesOf run offers outcomes i) j (shareAt run offers j)) → (i ≤ j) ⊎ (j < i)
+          → Tells (told (outcomesOf run offers outcomes i) i (shareAt run offers i)) j (shareAt run offers j)
+      go ih (inl a) =
+          let e : j ≡ i = omega arith in
+          rw e (told-here (outcomesOf run offers outcomes i) i (shareAt run offers i) (omega (arith, length-outcomes i)))
+      go ih (inr a) =
+          let t = ih a in
+          let same = told-other (outcomesOf run offers outcomes i) i (shareAt run offers i) in
+          record {
+            taken = same (takenOutcome j) (inl (omega arith)) ∙ t .taken;
+            over = same (overOutcome j) (inl (omega arith)) ∙ t .over;
+            no-room = same (noRoomOutcome j) (inl (omega arith)) ∙ t .no-room;
+          }

@@ -1,0 +1,3 @@
+// The run of a link, slot by slot, in a lent slice of numbers.
+pub mod intakes;
+pub mod tally;
