@@ -1,6 +1,6 @@
 // The two sorts of quantity, slots and packets, and the ways between them: the value of a curve at a slot count, and the delay look-up back.
 ghost use mathlib.Core.Path.{_≡_};
-ghost use Prim.Native.Nat.{_+_, _*_, _/_, _<_, _≤_};
+ghost use Prim.Native.Nat.{_+_, _*_, _/_, _<_, _≤_, min};
 ghost use lib.ListN.{length, getD};
 ghost use Rattle.words.specs.Words.{words};
 ghost use Rattle.curve.specs.Curve.{at};
@@ -13,6 +13,13 @@ pub struct Slots(pub u32);
 
 // A number of packets.
 pub struct Packets(pub u32);
+
+// The lesser of two numbers.
+pub fn lesser(a: u32, b: u32) -> u32
+    ensures { λ r. ⌜ r ≡ min a b ⌝ }
+{
+    if a < b { a } else { b }
+}
 
 // The i-th value of a table of two-byte numbers, counted from 0.
 pub fn entry(table: &[u8], i: usize) -> u32

@@ -57,12 +57,6 @@ pub fn due(table: &[u32], period: usize, rate: u32, want: u32) -> u32
     k as u32 + 1 + periods * period as u32
 }
 
-fn lesser(a: u32, b: u32) -> u32
-    ensures { λ r. ⌜ r ≡ min a b ⌝ }
-{
-    if a < b { a } else { b }
-}
-
 // What lies ahead of a curve, one slot further: its n numbers of packets stand at `at`, the curve's own table at `cur`, and `total` packets are taken in.
 fn advance(block: &mut [u32], cur: usize, at: usize, n: usize, period: usize, rate: u32, total: u32)
     requires { ⌜ Advances (now block) cur at n period rate total ⌝ }
@@ -77,7 +71,7 @@ fn advance(block: &mut [u32], cur: usize, at: usize, n: usize, period: usize, ra
             next = block[at + (j + 1)];
         }
         let own = total + block[cur + j];
-        block[at + j] = lesser(next, own);
+        block[at + j] = curve::lesser(next, own);
         j += 1;
     }
 }
@@ -86,8 +80,8 @@ fn advance(block: &mut [u32], cur: usize, at: usize, n: usize, period: usize, ra
 fn admit(offered: u32, headroom: u32, free: u32) -> Share
     ensures { λ r. ⌜ r ≡ admitted offered headroom free ⌝ }
 {
-    let within = lesser(offered, headroom);
-    let taken = lesser(within, free);
+    let within = curve::lesser(offered, headroom);
+    let taken = curve::lesser(within, free);
     Share {
         taken,
         over: offered - within,

@@ -2,3 +2,6 @@
 pub mod Intakes
 pub mod Summed
 pub mod Brought
+pub mod Why
+pub mod Decided
+pub mod Slot

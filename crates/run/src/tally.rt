@@ -70,24 +70,13 @@ pub enum Brought {
     TooMuch,
 }
 
-// How many packets a slot sends of those that wait, the new ones included.
-fn sent_of(capacity: u32, waiting: u32) -> u32
-    ensures { λ r. ⌜ r ≡ min capacity waiting ⌝ }
-{
-    if capacity < waiting {
-        capacity
-    } else {
-        waiting
-    }
-}
-
 // The tally brought up to date by a slot's sums: five totals are added to, the packets waiting are set.
 pub fn brought_up(tally: Tally, sums: Sums, capacity: u32) -> Brought
     requires { ⌜ sums .waiting + sums .«taken_in» ≤ mostTotal ⌝ }
     ensures { λ r. ⌜ r ≡ broughtUp tally sums capacity ⌝ }
 {
     let waiting = sums.waiting + sums.taken_in;
-    let sent = sent_of(capacity, waiting);
+    let sent = curve::lesser(capacity, waiting);
     // no sum is made that might wrap
     if MOST_TOTAL - tally.offered < sums.offered {
         return Brought::TooMuch;

@@ -2,10 +2,9 @@
 use mathlib.Core.Path.{_≡_, refl, sym, ap, _∙_}
 use mathlib.Core.List.{List}
 use Prim.Native.Nat.{ℕ}
-use native.Mathlib.Omega.{arith}
 use lib.ListN.{length, getD}
 use lib.Seq.{ext-getD}
-use Rattle.sheet.specs.Told.{Answer, read, refusal, told, Reads}
+use Rattle.sheet.specs.Told.{read-refusal, told, Reads}
 use Rattle.sheet.specs.declared.Outcome.{Outcome}
 use Rattle.sheet.specs.declared.Outcome.the-variants.{Read, Refused}
 use Rattle.sheet.specs.declared.Reading.{Reading}
@@ -17,18 +16,8 @@ told-one (Read c p m) (Read d q n) e =
     let ep : p .0 ≡ q .0 = cc in
     let em : m ≡ n = cc in
     λ i. Read (record { 0 = ec i }) (record { 0 = ep i }) (em i)
-told-one (Read c p m) (Refused n l) e = absurd (apart e)
-  where
-    apart : read (c .0) (p .0) m ≡ refusal n l → ⊥
-    apart e =
-        let z : _≡_ {A = ℕ} 0 1 = cc in
-        omega arith
-told-one (Refused n l) (Read c p m) e = absurd (apart e)
-  where
-    apart : refusal n l ≡ read (c .0) (p .0) m → ⊥
-    apart e =
-        let z : _≡_ {A = ℕ} 0 1 = cc in
-        omega arith
+told-one (Read c p m) (Refused n l) e = absurd (read-refusal _ _ _ _ _ e)
+told-one (Refused n l) (Read c p m) e = absurd (read-refusal _ _ _ _ _ (sym e))
 told-one (Refused n l) (Refused k j) e = cc
 
 -- ONE ANSWER

@@ -10,14 +10,9 @@ use Rattle.sheet.specs.Refusal.{Refusal, none, refused}
 use Rattle.sheet.specs.Bytes.{capacityOf, periodOf, countOf}
 use Rattle.sheet.specs.Reading.{reading}
 use Rattle.sheet.specs.Starts.{startOf}
-use Rattle.sheet.specs.Told.{Answer, read, refusal, answerTo, answer, sessionsRead, placed, Reads}
+use Rattle.sheet.specs.Told.{Answer, read, refusal, read-refusal, answerTo, answer, sessionsRead, placed, Reads}
 use Rattle.sheet.specs.Walk.{placed-start}
 use Rattle.sheet.specs.declared.Outcome.the-variants.{Read, Refused}
-
-apart : (c P m n l : ℕ) → read c P m ≡ refusal n l → ⊥
-apart c P m n l e =
-    let z : _≡_ {A = ℕ} 0 1 = cc in
-    omega arith
 
 -- a refusal is the reading's
 pub refused-tells : (bytes : List ℕ) (number place : ℕ) (starts : List ℕ) → Reads bytes (Refused number place) starts → reading bytes ≡ refused number place
@@ -25,7 +20,7 @@ unfolding answerTo
 refused-tells bytes number place starts r = go (reading bytes) refl
   where
     go : (o : Refusal) → reading bytes ≡ o → reading bytes ≡ refused number place
-    go none e = absurd (apart _ _ _ _ _ (sym (r .outcome-is ∙ ap (λ o. answerTo o bytes) e)))
+    go none e = absurd (read-refusal _ _ _ _ _ (sym (r .outcome-is ∙ ap (λ o. answerTo o bytes) e)))
     go (refused n l) e =
         let f : refusal number place ≡ refusal n l = r .outcome-is ∙ ap (λ o. answerTo o bytes) e in
         let a : number ≡ n = cc in
@@ -45,7 +40,7 @@ unfolding answerTo sessionsRead
 read-tells bytes c period m starts r = go (reading bytes) refl
   where
     go : (o : Refusal) → reading bytes ≡ o → ReadTells bytes (c .0) (period .0) m starts
-    go (refused n l) e = absurd (apart _ _ _ _ _ (r .outcome-is ∙ ap (λ o. answerTo o bytes) e))
+    go (refused n l) e = absurd (read-refusal _ _ _ _ _ (r .outcome-is ∙ ap (λ o. answerTo o bytes) e))
     go none e =
         let f : read (c .0) (period .0) m ≡ read (capacityOf bytes) (periodOf bytes) (countOf bytes) = r .outcome-is ∙ ap (λ o. answerTo o bytes) e in
         let k : m ≡ countOf bytes = cc in

@@ -26,6 +26,12 @@ pub data Answer : Type 0 where
   read : ℕ → ℕ → ℕ → Answer
   refusal : ℕ → ℕ → Answer
 
+-- the two are apart
+pub read-refusal : (c P m number place : ℕ) → read c P m ≡ refusal number place → ⊥
+read-refusal c P m number place e =
+    let z : _≡_ {A = ℕ} 0 1 = cc in
+    omega arith
+
 -- the numbers and values of each case
 abbrev pub told : Outcome → Answer
 told (Read c period m) = read (c .0) (period .0) m

@@ -36,12 +36,6 @@ pub struct Answer {
     pub figures: [Slots; 16],
 }
 
-fn lesser(a: u32, b: u32) -> u32
-    ensures { λ r. ⌜ r ≡ min a b ⌝ }
-{
-    if a < b { a } else { b }
-}
-
 // The better of two ways to share t slots: x of them for the envelope, or x of them for the service.
 fn tried(rest: &[u8], s: Session, period: Slots, t: Slots, x: Slots) -> Packets
     requires { ⌜ Drawn (period .0) (now rest) s × (x .0 ≤ t .0) × (t .0 < farthest) ⌝ }
@@ -58,7 +52,7 @@ fn tried(rest: &[u8], s: Session, period: Slots, t: Slots, x: Slots) -> Packets
         + curve::value(&rest[a..b], period, rate, left).0;
     let two = curve::value(&rest[d..e], period, other, left).0
         + curve::value(&rest[a..b], period, rate, x).0;
-    Packets(lesser(one, two))
+    Packets(curve::lesser(one, two))
 }
 
 // The least of some numbers.
@@ -69,7 +63,7 @@ fn least_of(tries: &[u32]) -> u32
     let mut best = tries[0];
     let mut i: usize = 1;
     while i < tries.len() {
-        best = lesser(best, tries[i]);
+        best = curve::lesser(best, tries[i]);
         i += 1;
     }
     best
@@ -91,7 +85,7 @@ fn search(bytes: &[u8], starts: [usize; 16], count: usize, c: Packets, period: S
         if WALK_END < t {
             break 'slots 0;
         }
-        let top = lesser(t, LONGEST_TABLE);
+        let top = curve::lesser(t, LONGEST_TABLE);
         let mut load: u32 = 0;
         let mut i: usize = 0;
         'sessions: while i < count {

@@ -19,8 +19,8 @@ pass-sent a b c e h = omega arith
 add-waiting : tie.Need-add-waiting
 add-waiting c = search needs
 
-sent-of-requires : tie.Need-sent-of-requires
-sent-of-requires c κs = search needs
+lesser-requires : tie.Need-lesser-requires
+lesser-requires c κs = search needs
 
 sub-if1 : tie.Need-sub-if1
 sub-if1 c = search needs
@@ -61,7 +61,7 @@ returns-5 : tie.Need-returns-5
 returns-5 c =
     let f = c .before .before .before .before .before .before .before .before .before .before .before .before .before .before in
     let a = f .before .before .args in
-    sym (brought-much (a .tally) (a .sums) (a .capacity) (λ w. passes (a .tally .sent) (f .sent-of .result) (c .if5 .taken) (pass-sent _ _ _ (f .sent-of .ensures) (w .sent))))
+    sym (brought-much (a .tally) (a .sums) (a .capacity) (λ w. passes (a .tally .sent) (f .lesser .result) (c .if5 .taken) (pass-sent _ _ _ (f .lesser .ensures) (w .sent))))
 
 add-t6 : tie.Need-add-t6
 add-t6 c = search needs
@@ -81,7 +81,7 @@ add-t11 c = search needs
 sub-t12 : tie.Need-sub-t12
 sub-t12 c =
     let f = c .before .before .before .before .before .before .before .before .before .before .before .before .before .before .before .before .before .before .before .before .before .before .before in
-    lesser-right _ _ _ (f .sent-of .ensures)
+    lesser-right _ _ _ (f .lesser .ensures)
 
 returns-6 : tie.Need-returns-6
 returns-6 c =
@@ -92,7 +92,7 @@ returns-6 c =
     let over = add-t9 (c .before .before .before) in
     let no-room = add-t10 (c .before) in
     let sent = add-t11 c in
-    brought-by (a .tally) (a .sums) (a .capacity) (f .sent-of .result) (f .sent-of .ensures)
+    brought-by (a .tally) (a .sums) (a .capacity) (f .lesser .result) (f .lesser .ensures)
     (most _ (offered .fits)) (most _ (taken .fits)) (most _ (over .fits)) (most _ (no-room .fits)) (most _ (sent .fits))
 
 pub brought-up-spec : {M : Type 1} → statement M
@@ -100,7 +100,7 @@ brought-up-spec =
     tie.close
     (tie.spec
     add-waiting
-    sent-of-requires
+    lesser-requires
     sub-if1
     returns
     sub-if2
