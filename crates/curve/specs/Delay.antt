@@ -21,6 +21,11 @@ unfoldable pub come : Due → ℕ → Bool
 come (slot d) t = leb d t
 come never t = false
 
+-- the slot it comes in, as a number; 0 stands for never
+unfoldable pub slotsOf : Due → ℕ
+slotsOf (slot m) = m
+slotsOf never = 0
+
 -- the first of the k numbers m, m + 1, .. at which f is at least q
 unfoldable pub find : (ℕ → ℕ) → ℕ → ℕ → ℕ → Due
 find f q zero m = never

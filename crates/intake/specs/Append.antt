@@ -4,7 +4,7 @@ use mathlib.Core.List.{List}
 use Prim.Native.Nat.{ℕ, _+_, _-_, _%_, _≤_, _<_}
 use native.Mathlib.Omega.{arith}
 use lib.ListN.{length, getD, set, take, drop}
-use Rattle.curve.specs.Delay.{Due, slot, never, delay}
+use Rattle.curve.specs.Delay.{slot, slotsOf, delay}
 use Rattle.layout.specs.Layout.{ring, deadlinesAt, serviceLengthAt, takenAt, serviceAheadAt, part, serviceAhead}
 use Rattle.layout.specs.Sound.{Sound, mostSlots}
 use Rattle.intake.specs.Share.{freeOf}
@@ -16,12 +16,7 @@ use Rattle.layout.specs.Over.{puts, puts-none, puts-more, puts-out, length-puts
 abbrev pub placeOf : ℕ → ℕ
 placeOf N = deadlinesAt + (N - 1) % ring
 
--- the slots that a look-up tells. With a rate of at least 1 it never tells never
-unfoldable pub slotsOf : Due → ℕ
-slotsOf (slot m) = m
-slotsOf never = 0
-
--- the deadline of packet N, taken in when `done` slots are done
+-- the deadline of packet N, taken in when `done` slots are done. With a rate of at least 1 the look-up never tells never
 unfoldable pub deadlineOf : List ℕ → ℕ → ℕ → ℕ → ℕ
 deadlineOf b P done N = done + slotsOf (delay P (serviceAhead b) N)
 

@@ -8,10 +8,10 @@ use lib.Dec.{T, leb→le, le→leb}
 use lib.ListN.{length}
 use Rattle.curve.specs.Curve.{at}
 use Rattle.curve.specs.Rises.{grows}
-use Rattle.curve.specs.Delay.{Due, slot, come, delay, delay-law, Found, find-found}
+use Rattle.curve.specs.Delay.{Due, slot, slotsOf, come, delay, delay-law, Found, find-found}
 use Rattle.layout.specs.Layout.{serviceAhead}
 use Rattle.layout.specs.Sound.{Sound}
-use Rattle.intake.specs.Append.{slotsOf, deadlineOf, deadline-is}
+use Rattle.intake.specs.Append.{deadlineOf, deadline-is}
 
 module _ (b : List ℕ) (P done : ℕ) (ok : Sound b P done) (N : ℕ) where
   found : Found (at P (serviceAhead b)) N 1 (delay P (serviceAhead b) N)

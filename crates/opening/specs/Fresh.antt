@@ -15,7 +15,7 @@ use Rattle.sheet.specs.declared.Session.{Session as SessionAt}
 use Rattle.layout.specs.Layout.{runNumbers, headNumbers, blockNumbers, serviceAt, envelopeAt, serviceAheadAt, envelopeAheadAt, deadlinesAt, ring, blockAt, part}
 use Rattle.layout.specs.Over.{over, length-over, over-out}
 use Rattle.layout.specs.Splice.{zeros-at, over-zeros}
-use Rattle.opening.specs.Image.{Moving, fieldsOf, tablesOver, ShortTables, blockOf, blocksOver, fresh}
+use Rattle.history.specs.Image.{Moving, fieldsOf, tablesOver, ShortTables, blockOf, blocksOver, fresh}
 
 -- a session's block before slot 1: its numbers and its tables over zeros, and no deadline yet
 pub fresh-block : (s : Session) → ShortTables s

@@ -1,5 +1,4 @@
 -- The run before slot 1, and what `open` answers.
-pub mod Image
 pub mod Fresh
 pub mod Opens
 pub mod Open

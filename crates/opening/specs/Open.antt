@@ -11,7 +11,7 @@ use Rattle.sheet.specs.Makes.{AllBytes}
 use Rattle.verdict.specs.Verdict.{Case, passed, failed, unreadable, Says}
 use Rattle.verdict.specs.OneVerdict.{one-case, some-verdict}
 use Rattle.layout.specs.Layout.{runNumbers}
-use Rattle.opening.specs.Image.{openedRun}
+use Rattle.history.specs.Image.{openedRun}
 use Rattle.opening.specs.declared.Opening.{Opening}
 use Rattle.opening.specs.declared.Opening.the-variants.{Opened, Refused}
 

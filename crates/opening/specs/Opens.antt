@@ -14,7 +14,7 @@ use Rattle.verdict.specs.Ready.{Ready, onFrom, sessions-are, few-sessions, sess
 use Rattle.layout.specs.Layout.{runNumbers, headNumbers, blockNumbers, serviceAt, envelopeAt, serviceAheadAt, envelopeAheadAt, deadlinesAt, blockAt, part}
 use Rattle.layout.specs.Part.{part-length, part-at, part-lent}
 use Rattle.layout.specs.Over.{over, length-over, over-out}
-use Rattle.opening.specs.Image.{Moving, fieldsOf, headOf, ShortTables, blockOf, blocksOver, runOf, fresh, openedRun}
+use Rattle.history.specs.Image.{Moving, fieldsOf, headOf, ShortTables, blockOf, blocksOver, runOf, fresh, openedRun}
 use Rattle.layout.specs.Splice.{zeros-at, over-splice, over-append}
 
 -- a block has 752 numbers

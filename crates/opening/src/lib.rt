@@ -7,7 +7,7 @@ ghost use Rattle.sheet.specs.Refusal.{none};
 ghost use Rattle.sheet.specs.Bytes.{sheetOf};
 ghost use Rattle.sheet.specs.Reading.{reading};
 ghost use Rattle.layout.specs.Layout.{runNumbers};
-ghost use Rattle.opening.specs.Image.{openedRun};
+ghost use Rattle.history.specs.Image.{openedRun};
 ghost use Rattle.opening.specs.Open.{told, Opens};
 use layout::RUN_NUMBERS;
 use sheet::Outcome;

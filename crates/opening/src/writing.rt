@@ -9,7 +9,7 @@ ghost use Rattle.sheet.specs.Told.{SessionIn};
 ghost use Rattle.verdict.specs.Ready.{Ready};
 ghost use Rattle.layout.specs.Layout.{runNumbers, blockNumbers};
 ghost use Rattle.layout.specs.Over.{over};
-ghost use Rattle.opening.specs.Image.{tablesOver, ShortTables, blockOf, fresh, openedRun};
+ghost use Rattle.history.specs.Image.{tablesOver, ShortTables, blockOf, fresh, openedRun};
 use curve::Packets;
 use curve::Slots;
 use layout::BLOCK_NUMBERS;

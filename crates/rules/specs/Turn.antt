@@ -24,7 +24,7 @@ use Rattle.rules.specs.Intake.{new-of}
 use Rattle.rules.specs.Laws.{sent-first, rise}
 
 -- a packet of session i with a number up to n
-abbrev upToNumber : ℕ → ℕ → Packet → Bool
+abbrev pub upToNumber : ℕ → ℕ → Packet → Bool
 upToNumber i n x = ofSession i x && leb (x .number) n
 
 module _ (sheet : Sheet) (told : ℕ → List ℕ) where
@@ -97,7 +97,7 @@ module _ (sheet : Sheet) (told : ℕ → List ℕ) where
   numbered i u n h = new-of sheet told (λ x. leb (x .number) n) i u h
 
   -- of the numbers 1..A those up to n were sent or wait, each once
-  counted : (i t n : ℕ) → i < sessionCount sheet
+  pub counted : (i t n : ℕ) → i < sessionCount sheet
       → countAll (upToNumber i n) (past sheet told t .sent) + count (upToNumber i n) (past sheet told t .waiting) ≡ min (total (got sheet told i) t) n
   unfolding total dueIn
   counted i t n h =

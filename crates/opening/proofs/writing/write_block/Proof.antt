@@ -9,7 +9,7 @@ use Rattle.sheet.specs.Bytes.{sessionOf}
 use Rattle.sheet.specs.Told.{tableIn, service-in, envelope-in}
 use Rattle.layout.specs.Layout.{blockNumbers}
 use Rattle.layout.specs.Over.{over, length-over}
-use Rattle.opening.specs.Image.{tablesOver, fieldsOf, fresh}
+use Rattle.history.specs.Image.{tablesOver, fieldsOf, fresh}
 use Rattle.opening.specs.Fresh.{fresh-block, service-values, envelope-values, fields-are}
 use Rattle.opening.proofs.writing.write_block.Statement.{statement}
 use Rattle.opening.proofs.writing.write_block.Tie as tie

@@ -5,7 +5,7 @@ use denote.Ref.{now}
 use Rattle.words.specs.Words.{words}
 use Rattle.layout.specs.Layout.{envelopeAt, serviceAheadAt, envelopeAheadAt}
 use Rattle.layout.specs.Over.{over}
-use Rattle.opening.specs.Image.{tablesOver}
+use Rattle.history.specs.Image.{tablesOver}
 use Rattle.opening.proofs.writing.write_tables.Statement.{statement}
 use Rattle.opening.proofs.writing.write_tables.Tie as tie
 

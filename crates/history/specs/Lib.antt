@@ -1,0 +1,2 @@
+-- What every number of a run's slice is, after any history.
+pub mod Image
