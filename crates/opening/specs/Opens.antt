@@ -14,42 +14,10 @@ use Rattle.verdict.specs.Ready.{Ready, onFrom, sessions-are, few-sessions, sess
 use Rattle.layout.specs.Layout.{runNumbers, headNumbers, blockNumbers, serviceAt, envelopeAt, serviceAheadAt, envelopeAheadAt, deadlinesAt, blockAt, part}
 use Rattle.layout.specs.Part.{part-length, part-at, part-lent}
 use Rattle.layout.specs.Over.{over, length-over, over-out}
-use Rattle.history.specs.Image.{Moving, fieldsOf, headOf, ShortTables, blockOf, blocksOver, runOf, fresh, openedRun}
+use Rattle.history.specs.Image.{Moving, headOf, ShortTables, blockOf, blocksOver, runOf, fresh, openedRun}
+use Rattle.history.specs.Block.{length-block}
+use Rattle.history.specs.Run.{length-blocks, blocks-out, blocks-append}
 use Rattle.layout.specs.Splice.{zeros-at, over-splice, over-append}
-
--- a block has 752 numbers
-pub length-block : (sheet : Sheet) (m : ℕ → Moving) (i : ℕ) → length (blockOf (session sheet i) (m i)) ≡ blockNumbers
-unfolding blockOf
-length-block sheet m i =
-    length-over _ deadlinesAt _
-    ∙ length-over _ envelopeAheadAt _
-    ∙ length-over _ serviceAheadAt _
-    ∙ length-over _ envelopeAt _
-    ∙ length-over _ serviceAt _
-    ∙ length-over (replicate blockNumbers 0) 0 (fieldsOf (session sheet i) (m i))
-    ∙ length-replicate blockNumbers zero
-
-module _ (sheet : Sheet) (m : ℕ → Moving) where
-  pub length-blocks : (l : List ℕ) (k : ℕ) → length (blocksOver l sheet m k) ≡ length l
-  unfolding blocksOver
-  length-blocks l zero = refl
-  length-blocks l (suc k) = length-over (blocksOver l sheet m k) (blockAt k) (blockOf (session sheet k) (m k)) ∙ length-blocks l k
-
-  -- past the blocks that are written, and before the first, nothing changed
-  pub blocks-past : (l : List ℕ) (k x : ℕ) → blockAt k ≤ x → getD (blocksOver l sheet m k) x 0 ≡ getD l x 0
-  unfolding blocksOver
-  blocks-past l zero x h = refl
-  blocks-past l (suc k) x h =
-      over-out (blocksOver l sheet m k) (blockAt k) (blockOf (session sheet k) (m k)) x (inr (omega (arith, length-block sheet m k)))
-      ∙ blocks-past l k x (omega arith)
-
-  -- what stands past the run stays past it
-  pub blocks-append : (l r : List ℕ) (k : ℕ) → blockAt k ≤ length l → blocksOver (l ++ r) sheet m k ≡ blocksOver l sheet m k ++ r
-  unfolding blocksOver
-  blocks-append l r zero h = refl
-  blocks-append l r (suc k) h =
-      ap (λ z. over z (blockAt k) (blockOf (session sheet k) (m k))) (blocks-append l r k (omega arith))
-      ∙ over-append (blocksOver l sheet m k) r (blockAt k) (blockOf (session sheet k) (m k)) (omega (arith, length-block sheet m k, length-blocks l k))
 
 -- before slot 1
 abbrev pub moving : Sheet → ℕ → Moving
@@ -76,7 +44,7 @@ module _ (bytes starts : List ℕ) (count c P : ℕ) (r : Ready bytes starts cou
         ext-getD 0 (part (blockAt i) blockNumbers l) (replicate blockNumbers 0) (k ∙ sym (length-replicate blockNumbers zero))
         (λ j b.
         let q : j < blockNumbers = omega arith in
-        part-at l (blockAt i) blockNumbers j q ∙ blocks-past (sheetOf bytes) (moving (sheetOf bytes)) headed i (blockAt i + j) (omega arith)
+        part-at l (blockAt i) blockNumbers j q ∙ blocks-out (sheetOf bytes) (moving (sheetOf bytes)) headed i (blockAt i + j) (inr (omega arith))
         ∙ over-out (replicate runNumbers 0 ++ past) 0 (headOf (sheetOf bytes) 0) (blockAt i + j) (inr (omega arith))
         ∙ List·getD-append (replicate runNumbers 0) past 0 (blockAt i + j) (omega (arith, zeros-length, few-sessions bytes starts count c P r))
         ∙ zeros-at runNumbers (blockAt i + j)
@@ -96,7 +64,7 @@ module _ (bytes starts : List ℕ) (count c P : ℕ) (r : Ready bytes starts cou
         let sheet = sheetOf bytes in
         let g : y ≡ blockOf (session sheet i) (moving sheet i) = f ∙ ap (λ s. blockOf s (fresh s)) (session-there bytes starts count c P r i h) in
         let w : blockAt i + blockNumbers - blockAt i ≡ blockNumbers = omega arith in
-        let n : length y ≡ blockNumbers = ap length g ∙ length-block sheet (moving sheet) i in
+        let n : length y ≡ blockNumbers = ap length g ∙ length-block (session sheet i) (moving sheet i) in
         let m : blockAt i + blockNumbers ≤ length l = omega (arith, ap length e, length-blocks sheet (moving sheet) headed i, headed-length, few-sessions bytes starts count c P r) in
         rw (add-one i, w) (over-splice l (blockAt i) blockNumbers y n m ∙ ap (λ z. over z (blockAt i) y) e ∙ ap (over (blocksOver headed sheet (moving sheet) i) (blockAt i)) g)
 

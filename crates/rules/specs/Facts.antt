@@ -22,11 +22,16 @@ use Rattle.rules.specs.Curves.{Curves, envelope-rises}
 use Rattle.rules.specs.Order.{first-early}
 
 -- the list has f i at i
-listed-at : (f : ℕ → ℕ) (n i : ℕ) → i < n → getD (listed f n) i 0 ≡ f i
+pub listed-at : (f : ℕ → ℕ) (n i : ℕ) → i < n → getD (listed f n) i 0 ≡ f i
 unfolding listed
 listed-at f zero i h = absurd (omega arith)
 listed-at f (suc n) zero h = refl
 listed-at f (suc n) (suc i) h = listed-at (λ j. f (suc j)) n i (omega arith)
+
+pub length-listed : (f : ℕ → ℕ) (n : ℕ) → length (listed f n) ≡ n
+unfolding listed
+length-listed f zero = refl
+length-listed f (suc n) = ap suc (length-listed (λ j. f (suc j)) n)
 
 count-upTo : {X : Type 0} (p : X → Bool) (f : ℕ → X) (n : ℕ) → count p (upTo f n) ≡ countTo (λ q. p (f q)) n
 unfolding upTo countTo count

@@ -13,7 +13,8 @@ use Rattle.layout.specs.Layout.{runNumbers, blockNumbers, mark, blockAt, part}
 use Rattle.layout.specs.Part.{part-lent}
 use Rattle.layout.specs.Over.{over, puts}
 use Rattle.history.specs.Image.{blocksOver}
-use Rattle.opening.specs.Opens.{length-blocks, moving, headed, headed-length, finds-zeros, short-tables, next-block, all-blocks}
+use Rattle.history.specs.Run.{length-blocks}
+use Rattle.opening.specs.Opens.{moving, headed, headed-length, finds-zeros, short-tables, next-block, all-blocks}
 use Rattle.opening.proofs.writing.write_run.Statement.{statement}
 use Rattle.opening.proofs.writing.write_run.Tie as tie
 
