@@ -1,5 +1,5 @@
 -- The delay look-up of a curve: D(q), the least m ≥ 1 with S(m) ≥ q, or never where S stays below q. Assumes nothing.
-use mathlib.Core.Path.{_≡_, refl, ap}
+use mathlib.Core.Path.{_≡_, refl, sym, ap, _∙_}
 use mathlib.Core.Logic.{_⊎_, inl, inr, _↔_}
 use mathlib.Core.Bool.{Bool, true, false}
 use Prim.Native.Nat.{ℕ, zero, suc, _+_, _*_, _≤_, _<_}
@@ -9,7 +9,7 @@ use lib.Dec.{T, leb, leb→le, le→leb}
 use lib.ListN.{length}
 use Rattle.curve.specs.Order.{le-or-lt, Rises}
 use Rattle.curve.specs.Curve.{Curve, at}
-use Rattle.curve.specs.Rises.{IsCurve, at-rises, at-within}
+use Rattle.curve.specs.Rises.{IsCurve, at-rises, grows, at-within}
 
 -- a slot, or never
 pub data Due : Type 0 where
@@ -139,6 +139,21 @@ module _ (P : ℕ) (S : Curve) (good : IsCurve P S) where
       let p : 1 ≤ P = good .period in
       let l : P ≤ length (S .table) = good .long in
       find-delays (at P S) (λ q. length (S .table) + q * P) (at-rises P S good) (λ q. omega arith) (at-within P S good)
+
+  -- with a rate, there is always a slot in which it comes
+  pub delay-found : 1 ≤ S .rate → (q : ℕ) → Found (at P S) q 1 (delay P S q)
+  unfolding delay
+  delay-found rate q =
+      let p : 1 ≤ P = good .period in
+      let l : P ≤ length (S .table) = good .long in
+      let n : ℕ = length (S .table) + q * P in
+      find-found (at P S) q n 1 n (omega arith) (omega arith) (grows P S good rate q)
+
+  pub delay-slot : 1 ≤ S .rate → (q : ℕ) → delay P S q ≡ slot (slotsOf (delay P S q))
+  unfolding slotsOf
+  delay-slot rate q =
+      let found = delay-found rate q in
+      found .is ∙ ap (λ d. slot (slotsOf d)) (sym (found .is))
 
   -- D(q) is the least, where there is one
   pub delay-is : (q m : ℕ) → First (at P S) q m → delay P S q ≡ slot m

@@ -1,16 +1,17 @@
 -- How a session's block reads, place by place: its plain numbers, four tables and the deadlines, with zeros between. A list that reads so is the block. Assumes nothing.
 use mathlib.Core.Path.{_≡_, refl, sym, ap, ap₂, _∙_}
-use mathlib.Core.Logic.{_⊎_, inl, inr}
+use mathlib.Core.Logic.{_⊎_, inl, inr, _≢_}
 use mathlib.Core.List.{List}
 use Prim.Native.Nat.{ℕ, zero, _+_, _-_, _≤_, _<_}
 use native.Mathlib.Omega.{arith}
-use lib.ListN.{length, getD, replicate, length-replicate, List·getD-eq-default}
-use lib.Seq.{ext-getD}
+use native.Mathlib.Decide.{ℕ-discrete}
+use lib.ListN.{length, getD, set, replicate, length-set, length-replicate, List·getD-eq-default}
+use lib.Seq.{ext-getD, getD-set-same, getD-set-other}
 use Rattle.curve.specs.Order.{le-or-lt}
 use Rattle.curve.specs.Curve.{Curve}
 use Rattle.sheet.specs.Limits.{longestTable}
 use Rattle.sheet.specs.Sheet.{Session}
-use Rattle.layout.specs.Layout.{blockNumbers, serviceLengthAt, envelopeLengthAt, serviceRateAt, envelopeRateAt, serviceAt, envelopeAt, serviceAheadAt, envelopeAheadAt, deadlinesAt, ring, part, service, envelope, serviceAhead, envelopeAhead}
+use Rattle.layout.specs.Layout.{blockNumbers, serviceLengthAt, envelopeLengthAt, serviceRateAt, envelopeRateAt, sentAt, serviceAt, envelopeAt, serviceAheadAt, envelopeAheadAt, deadlinesAt, ring, part, service, envelope, serviceAhead, envelopeAhead}
 use Rattle.layout.specs.Part.{part-length, part-at}
 use Rattle.layout.specs.Over.{over, length-over, over-out, over-in}
 use Rattle.layout.specs.Splice.{zeros-at}
@@ -184,6 +185,33 @@ reads-one s m b c x y =
 
 pub reads-block : (s : Session) (m : Moving) (b : List ℕ) → Fitting s m → Reads s m b → b ≡ blockOf s m
 reads-block s m b fit r = reads-one s m b (blockOf s m) r (block-reads s m fit)
+
+-- another number of packets sent
+abbrev pub withSent : Moving → ℕ → Moving
+withSent m n = record { taken = m .taken; sent = n; service-ahead = m .service-ahead; envelope-ahead = m .envelope-ahead; deadlines = m .deadlines }
+
+pub block-sent : (s : Session) (m : Moving) → Fitting s m → (n : ℕ) → set (blockOf s m) sentAt n ≡ blockOf s (withSent m n)
+block-sent s m fit n =
+    reads-block s (withSent m n) (set (blockOf s m) sentAt n) (record { short = fit .short; service-ahead = fit .service-ahead; envelope-ahead = fit .envelope-ahead; deadlines = fit .deadlines })
+    (record {
+      size = length-set (blockOf s m) sentAt n ∙ r .size;
+      fields = λ i h. go i h (ℕ-discrete i sentAt);
+      services = λ j h. other (serviceAt + j) (omega arith) ∙ r .services j h;
+      envelopes = λ j h. other (envelopeAt + j) (omega arith) ∙ r .envelopes j h;
+      service-aheads = λ j h. other (serviceAheadAt + j) (omega arith) ∙ r .service-aheads j h;
+      envelope-aheads = λ j h. other (envelopeAheadAt + j) (omega arith) ∙ r .envelope-aheads j h;
+      deadlines = λ j h. other (deadlinesAt + j) (omega arith) ∙ r .deadlines j h;
+    })
+  where
+    r : Reads s m (blockOf s m)
+    r = block-reads s m fit
+
+    other : (x : ℕ) → x ≢ sentAt → getD (set (blockOf s m) sentAt n) x 0 ≡ getD (blockOf s m) x 0
+    other x d = getD-set-other (blockOf s m) sentAt x n 0 d
+
+    go : (i : ℕ) → i < serviceAt → Dec (i ≡ sentAt) → getD (set (blockOf s m) sentAt n) i 0 ≡ getD (fieldsOf s (withSent m n)) i 0
+    go i h (yes e) = rw e (getD-set-same (blockOf s m) sentAt n 0 (omega (arith, r .size)))
+    go i h (no d) = other i d ∙ r .fields i h ∙ sym (getD-set-other (fieldsOf s m) sentAt i n 0 d)
 
 -- its four curves
 module _ (s : Session) (m : Moving) (b : List ℕ) (fit : Fitting s m) (r : Reads s m b) where

@@ -4,3 +4,4 @@ pub mod After
 pub mod Block
 pub mod Run
 pub mod Opened
+pub mod Tables

@@ -5,27 +5,15 @@ use mathlib.Core.Logic.{_↔_}
 use Prim.Native.Nat.{ℕ, _+_, _*_, _≤_, _<_}
 use native.Mathlib.Omega.{arith}
 use lib.Dec.{T, leb→le, le→leb}
-use lib.ListN.{length}
 use Rattle.curve.specs.Curve.{at}
-use Rattle.curve.specs.Rises.{grows}
-use Rattle.curve.specs.Delay.{Due, slot, slotsOf, come, delay, delay-law, Found, find-found}
+use Rattle.curve.specs.Delay.{Due, come, delay, delay-law, Found, delay-found}
 use Rattle.layout.specs.Layout.{serviceAhead}
 use Rattle.layout.specs.Sound.{Sound}
 use Rattle.intake.specs.Append.{deadlineOf, deadline-is}
 
 module _ (b : List ℕ) (P done : ℕ) (ok : Sound b P done) (N : ℕ) where
   found : Found (at P (serviceAhead b)) N 1 (delay P (serviceAhead b) N)
-  unfolding delay
-  found =
-      let p : 1 ≤ P = ok .period in
-      let l : P ≤ length (serviceAhead b .table) = ok .service-ahead .long in
-      let n : ℕ = length (serviceAhead b .table) + N * P in
-      find-found (at P (serviceAhead b)) N n 1 n (omega arith) (omega arith) (grows P (serviceAhead b) (ok .service-ahead) (ok .promises) N)
-
-  -- the look-up tells a slot count, from 1 on
-  pub deadline-slot : delay P (serviceAhead b) N ≡ slot (slotsOf (delay P (serviceAhead b) N))
-  unfolding slotsOf
-  deadline-slot = found .is ∙ ap (λ d. slot (slotsOf d)) (sym (found .is))
+  found = delay-found P (serviceAhead b) (ok .service-ahead) (ok .promises) N
 
   pub deadline-after : done < deadlineOf b P done N
   deadline-after = omega (arith, deadline-is b P done N (found .place) (found .is), found .from)

@@ -8,3 +8,4 @@ pub mod Deadline
 pub mod Intake
 pub mod Taken
 pub mod Keeps
+pub mod Intakes

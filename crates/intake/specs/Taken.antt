@@ -71,7 +71,7 @@ module _ (b : List ℕ) (P done : ℕ) (ok : Sound b P done) (k : ℕ) where
       same-curve (envelope b .table) envelopeAt _ (getD b envelopeLengthAt 0) _ _ (tookIn-front envelopeLengthAt (omega arith) (omega arith)) (tookIn-front envelopeRateAt (omega arith) (omega arith))
       (own-part envelopeAt (getD b envelopeLengthAt 0) (omega arith) (omega (arith, ok .envelope-short)))
 
-  new-service : part serviceAheadAt (getD b serviceLengthAt 0) (tookIn b P done k) ≡ advanced P (serviceAhead b) (getD b takenAt 0 + k) (service b .table)
+  pub new-service : part serviceAheadAt (getD b serviceLengthAt 0) (tookIn b P done k) ≡ advanced P (serviceAhead b) (getD b takenAt 0 + k) (service b .table)
   unfolding tookIn served
   new-service =
       let s : length b ≡ 752 = ok .size in
@@ -87,7 +87,7 @@ module _ (b : List ℕ) (P done : ℕ) (ok : Sound b P done) (k : ℕ) where
   tookIn-service-ahead =
       same-curve (advanced P (serviceAhead b) (getD b takenAt 0 + k) (service b .table)) serviceAheadAt _ (getD b serviceLengthAt 0) _ _ (tookIn-front serviceLengthAt (omega arith) (omega arith)) (tookIn-front serviceRateAt (omega arith) (omega arith)) new-service
 
-  new-envelope : part envelopeAheadAt (getD b envelopeLengthAt 0) (tookIn b P done k) ≡ advanced P (envelopeAhead b) (getD b takenAt 0 + k) (envelope b .table)
+  pub new-envelope : part envelopeAheadAt (getD b envelopeLengthAt 0) (tookIn b P done k) ≡ advanced P (envelopeAhead b) (getD b takenAt 0 + k) (envelope b .table)
   unfolding tookIn
   new-envelope =
       let s : length b ≡ 752 = ok .size in
@@ -102,7 +102,7 @@ module _ (b : List ℕ) (P done : ℕ) (ok : Sound b P done) (k : ℕ) where
       same-curve (advanced P (envelopeAhead b) (getD b takenAt 0 + k) (envelope b .table)) envelopeAheadAt _ (getD b envelopeLengthAt 0) _ _ (tookIn-front envelopeLengthAt (omega arith) (omega arith)) (tookIn-front envelopeRateAt (omega arith) (omega arith)) new-envelope
 
   -- the ring is as the deadlines left it
-  as-appended : (i : ℕ) → deadlinesAt ≤ i → getD (tookIn b P done k) i 0 ≡ getD (appended b P done k) i 0
+  pub as-appended : (i : ℕ) → deadlinesAt ≤ i → getD (tookIn b P done k) i 0 ≡ getD (appended b P done k) i 0
   unfolding counted
   as-appended i h =
       as-counted i (inr (omega (arith, ok .service-short))) (inr (omega (arith, ok .envelope-short)))

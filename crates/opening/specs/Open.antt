@@ -1,6 +1,6 @@
 -- What `open` answers and leaves in the run, for any bytes and any slice: the refusals 13, 1 to 11 and 12 with their places, or the run before slot 1. Assumes nothing.
 use mathlib.Core.Path.{_≡_, refl, sym, ap, _∙_}
-use mathlib.Core.List.{List, _++_}
+use mathlib.Core.List.{List, [], _++_}
 use mathlib.Core.Logic.{_⊎_, inl, inr}
 use Prim.Native.Nat.{ℕ, _≤_, _<_}
 use native.Mathlib.Omega.{arith}
@@ -11,7 +11,7 @@ use Rattle.sheet.specs.Makes.{AllBytes}
 use Rattle.verdict.specs.Verdict.{Case, passed, failed, unreadable, Says}
 use Rattle.verdict.specs.OneVerdict.{one-case, some-verdict}
 use Rattle.layout.specs.Layout.{runNumbers}
-use Rattle.history.specs.Image.{openedRun}
+use Rattle.history.specs.After.{runAfter}
 use Rattle.opening.specs.declared.Opening.{Opening}
 use Rattle.opening.specs.declared.Opening.the-variants.{Opened, Refused}
 
@@ -30,9 +30,9 @@ answerBy (passed slack t) = opened
 answerBy (failed t) = refused 12 t
 answerBy (unreadable number place) = refused number place
 
--- a refused call leaves the slice as it was; numbers past the run stay in any case
+-- the run after the empty history, before slot 1 with nothing taken in; a refused call leaves the slice as it was. Numbers past the run stay in any case
 abbrev pub runBy : Case → List ℕ → List ℕ → List ℕ
-runBy (passed slack t) bytes run = openedRun (sheetOf bytes) ++ drop runNumbers run
+runBy (passed slack t) bytes run = runAfter (sheetOf bytes) [] ++ drop runNumbers run
 runBy (failed t) bytes run = run
 runBy (unreadable number place) bytes run = run
 

@@ -64,7 +64,8 @@ module _ (sheet : Sheet) (told : ℕ → List ℕ) where
   later-arrived : (t : ℕ) (x : Packet) → Arrived sheet told t x → Arrived sheet told (suc t) x
   later-arrived t x a = record { u = a .u; slot = omega (arith, a .slot); new = a .new }
 
-  arrivals-new : (u : ℕ) (x : Packet) → List·Memᴰ x (arrivals sheet (took (past sheet told (suc u) .taken)) u) → New sheet told u x
+  -- what arrives in slot u + 1 is new
+  pub arrivals-new : (u : ℕ) (x : Packet) → List·Memᴰ x (arrivals sheet (took (past sheet told (suc u) .taken)) u) → New sheet told u x
   unfolding arrivals
   arrivals-new u x m = go (in-joined _ (sessionCount sheet) x m)
     where

@@ -93,6 +93,18 @@ module _ {X : Type 0} where
   count-no p [] h = refl
   count-no p (x ∷ l) h = omega (arith, ap ind (h x (List·Memᴰ·head refl)), count-no p l (λ y m. h y (List·Memᴰ·tail m)))
 
+  -- so where one is counted, a member passes
+  pub count-witness : (p : X → Bool) (l : List X) → 1 ≤ count p l → (x : X) × List·Memᴰ x l × (p x ≡ true)
+  unfolding count ind
+  count-witness p [] h = absurd (omega arith)
+  count-witness p (y ∷ l) h = go (p y) refl (count-witness p l)
+    where
+      go : (b : Bool) → p y ≡ b → (1 ≤ count p l → (x : X) × List·Memᴰ x l × (p x ≡ true)) → (x : X) × List·Memᴰ x (y ∷ l) × (p x ≡ true)
+      go true e ih = (y, List·Memᴰ·head refl, e)
+      go false e ih =
+          let w = ih (omega (arith, ap ind e)) in
+          (w .0, List·Memᴰ·tail (w .1), w .2)
+
   -- a test that passes less often among the members
   count-le-in : (p q : X → Bool) (l : List X) → ((x : X) → List·Memᴰ x l → ind (p x) ≤ ind (q x)) → count p l ≤ count q l
   unfolding count

@@ -203,18 +203,44 @@ compare-same m n h = go (compared m n)
     go (same l e) = e
     go (more l e) = absurd (omega arith)
 
+compare-more : (m n : ℕ) → n < m → compare m n ≡ Ordering·gt
+unfolding flip
+compare-more m n h = compare-flip n m ∙ ap flip (compare-less n m h)
+
 same-due : (d : Due) → compareDue d d ≡ Ordering·eq
 unfolding compareDue
 same-due (slot d) = compare-same d d refl
 same-due never = refl
 
 module _ (x y : Packet) where
+  by-deadlines : (d e : ℕ) → x .due ≡ slot d → y .due ≡ slot e → first x y ≡ thenBy (compare d e) (tie x y)
+  unfolding first compareDue
+  by-deadlines d e f g = ap (λ z. thenBy (compareDue z (y .due)) (tie x y)) f ∙ ap (λ z. thenBy (compareDue (slot d) z) (tie x y)) g
+
   pub lower-deadline : (d e : ℕ) → x .due ≡ slot d → y .due ≡ slot e → d < e → first x y ≡ true
-  unfolding first thenBy compareDue
-  lower-deadline d e f g h =
-      ap (λ z. thenBy (compareDue z (y .due)) (tie x y)) f
-      ∙ ap (λ z. thenBy (compareDue (slot d) z) (tie x y)) g
-      ∙ ap (λ o. thenBy o (tie x y)) (compare-less d e h)
+  unfolding thenBy
+  lower-deadline d e f g h = by-deadlines d e f g ∙ ap (λ o. thenBy o (tie x y)) (compare-less d e h)
+
+  -- what comes first has no later deadline
+  pub first-due : (d e : ℕ) → x .due ≡ slot d → y .due ≡ slot e → first x y ≡ true → d ≤ e
+  first-due d e f g h = leb-true d e (by-le (compare d e) (tie x y) (sym (by-deadlines d e f g) ∙ h))
+
+  -- and an earlier one, where its session is the higher
+  pub first-strict : (d e : ℕ) → x .due ≡ slot d → y .due ≡ slot e → first x y ≡ true → y .owner < x .owner → d < e
+  unfolding thenBy tie
+  first-strict d e f g h l = go (compared d e)
+    where
+      go : Compared d e (compare d e) → d < e
+      go (less k o) = k
+      go (same k o) =
+          absurd
+          (not-both
+          (sym
+          (by-deadlines d e f g
+          ∙ ap (λ z. thenBy z (tie x y)) o
+          ∙ ap (λ z. thenBy z (leb (x .number) (y .number))) (compare-more (x .owner) (y .owner) l))
+          ∙ h))
+      go (more k o) = absurd (omega (arith, first-due d e f g h))
 
   even : x .due ≡ y .due → first x y ≡ tie x y
   unfolding first thenBy

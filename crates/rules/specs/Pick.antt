@@ -3,7 +3,7 @@
 use mathlib.Core.Path.{_≡_, refl, sym, ap, _∙_}
 use mathlib.Core.Logic.{_⊎_, inl, inr}
 use mathlib.Core.Bool.{Bool, true, false, not}
-use mathlib.Core.List.{List, [], _∷_, List·Memᴰ, List·Memᴰ·head, List·Memᴰ·tail, List·Memᴰ·not-nil, List·Memᴰ·cases-cons}
+use mathlib.Core.List.{List, [], _∷_, _++_, List·Memᴰ, List·Memᴰ·head, List·Memᴰ·tail, List·Memᴰ·not-nil, List·Memᴰ·cases-cons}
 use Prim.Native.Nat.{ℕ, zero, suc, _+_, _≤_}
 use native.Mathlib.Omega.{arith}
 use borrow.Author.Tests.{not-false}
@@ -36,7 +36,7 @@ module _ {X : Type 0} where
   abbrev pub Early : (X → X → Bool) → (X → Bool) → Type 0
   Early le p = (x y : X) → (le x y ≡ true → ind (p y) ≤ ind (p x)) × (le x y ≡ false → ind (p x) ≤ ind (p y))
 
-  extract-count : (le : X → X → Bool) (p : X → Bool) (x : X) (l : List X)
+  pub extract-count : (le : X → X → Bool) (p : X → Bool) (x : X) (l : List X)
       → ind (p ((extract le x l) .0)) + count p ((extract le x l) .1) ≡ ind (p x) + count p l
   unfolding count keep extract
   extract-count le p x [] = refl
@@ -110,7 +110,7 @@ module _ {X : Type 0} where
   send-full le (suc k) (x ∷ l) = elim (send-full le k ((extract le x l) .1)) [ inl e ↦ inl e | inr e ↦ inr (omega arith) ]
 
   -- what is sent, and what is left, was there
-  extract-member : (le : X → X → Bool) (x : X) (l : List X) (z : X)
+  pub extract-member : (le : X → X → Bool) (x : X) (l : List X) (z : X)
       → (z ≡ (extract le x l) .0) ⊎ List·Memᴰ z ((extract le x l) .1) → List·Memᴰ z (x ∷ l)
   unfolding keep extract
   extract-member le x [] z (inl e) = List·Memᴰ·head e
@@ -139,6 +139,28 @@ module _ {X : Type 0} where
       go ih (inl e) = inl e
       go ih (inr n) = inr (ih n)
   send-member le (suc k) (x ∷ l) z (inr m) = extract-member le x l z (inr (send-member le k ((extract le x l) .1) z (inr m)))
+
+  -- one more: the least of those left goes after those sent
+  unfoldable pub next : (X → X → Bool) → List X → List X → List X × List X
+  next le s [] = (s, [])
+  next le s (x ∷ l) =
+      let e = extract le x l in
+      (s ++ (e .0 ∷ []), e .1)
+
+  next-cons : (le : X → X → Bool) (w : X) (s l : List X) → next le (w ∷ s) l ≡ (w ∷ (next le s l) .0, (next le s l) .1)
+  unfolding next
+  next-cons le w s [] = refl
+  next-cons le w s (x ∷ l) = refl
+
+  -- ONE BY ONE: sending up to k + 1 is sending up to k and then one more
+  pub send-next : (le : X → X → Bool) (k : ℕ) (l : List X) → send le (suc k) l ≡ next le ((send le k l) .0) ((send le k l) .1)
+  unfolding send next
+  send-next le zero [] = refl
+  send-next le zero (x ∷ l) = refl
+  send-next le (suc k) [] = refl
+  send-next le (suc k) (x ∷ l) =
+      let e = extract le x l in
+      ap (λ r. (e .0 ∷ r .0, r .1)) (send-next le k (e .1)) ∙ sym (next-cons le (e .0) ((send le k (e .1)) .0) ((send le k (e .1)) .1))
 
   -- an order: of two one comes first, and what comes first stays so over a third
   pub record IsOrder (le : X → X → Bool) : Type 0 where
@@ -179,6 +201,11 @@ module _ {X : Type 0} where
     extract-before x l =
         let w = (extract le x l) .0 in
         extract-least le (λ y. not (le w y)) (before-early w) x l (ap (λ b. ind (not b)) (itself w))
+
+    -- the least comes before all there were
+    pub extract-first : (x : X) (l : List X) (z : X) → List·Memᴰ z (x ∷ l) → le ((extract le x l) .0) z ≡ true
+    unfolding count
+    extract-first x l z m = none-before ((extract le x l) .0) z (x ∷ l) (extract-before x l) m
 
     -- LEAST FIRST: what is sent comes before all that is left
     pub send-before : (k : ℕ) (l : List X) (x y : X) → List·Memᴰ x ((send le k l) .0) → List·Memᴰ y ((send le k l) .1) → le x y ≡ true

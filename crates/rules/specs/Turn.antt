@@ -1,18 +1,18 @@
 -- A session's packets are sent in turn: those sent are the numbers 1..k and those that wait the numbers k+1..A, where k packets of it were sent and A taken in.
 -- So a run needs no list of what waits. Assumes nothing.
 use mathlib.Core.Path.{_≡_, refl, sym, ap, _∙_}
-use mathlib.Core.Logic.{_⊎_, inl, inr}
+use mathlib.Core.Logic.{_⊎_, inl, inr, _≢_}
 use mathlib.Core.Bool.{Bool, true, false, _&&_}
 use mathlib.Core.List.{List, [], _∷_, List·Memᴰ, List·Memᴰ·not-nil, List·Memᴰ·append-cases, List·Memᴰ·eq-of-singleton}
 use Prim.Native.Nat.{ℕ, zero, suc, _+_, _≤_, _<_, min}
 use native.Mathlib.Omega.{arith}
-use borrow.Author.Tests.{le-leb, lt-leb, eqb-true, eq-eqb}
+use borrow.Author.Tests.{leb-true, le-leb, lt-leb, eqb-true, eq-eqb, ne-eqb}
 use lib.Dec.{leb, leb→le, le→leb}
 use Rattle.curve.specs.Order.{le-or-lt}
 use Rattle.curve.specs.Total.{total, total-cong, total-mono}
 use Rattle.curve.specs.Delay.{come}
 use Rattle.sheet.specs.Sheet.{Sheet, sessionCount}
-use Rattle.rules.specs.Count.{ind, ind-and-left, count, count-some, count-no, countAll, countAll-le-in, countAll-lt, countTo}
+use Rattle.rules.specs.Count.{ind, ind-and-left, not-both, count, count-some, count-no, countAll, countAll-le, countAll-le-in, countAll-lt, countTo}
 use Rattle.rules.specs.Core.{dueIn, due-upper, due-lower}
 use Rattle.rules.specs.Deadline.{later, come-later}
 use Rattle.rules.specs.Model.{Packet, ofSession, packet, sends, oneSlot, past}
@@ -20,12 +20,52 @@ use Rattle.rules.specs.Curves.{Curves}
 use Rattle.rules.specs.Order.{in-turn}
 use Rattle.rules.specs.Facts.{got, newPacket, new, all-conserved}
 use Rattle.rules.specs.Arrived.{New, Arrived, chosen, waiting-arrived, sent-arrived}
-use Rattle.rules.specs.Intake.{new-of}
+use Rattle.rules.specs.Intake.{new-of, taken-split}
 use Rattle.rules.specs.Laws.{sent-first, rise}
 
 -- a packet of session i with a number up to n
 abbrev pub upToNumber : ℕ → ℕ → Packet → Bool
 upToNumber i n x = ofSession i x && leb (x .number) n
+
+-- the two tests of a session, by whose the packet is and by its number
+module _ (i : ℕ) (x : Packet) where
+  pub own-test : x .owner ≡ suc i → ofSession i x ≡ true
+  unfolding ofSession
+  own-test o = eq-eqb (x .owner) (suc i) o
+
+  pub other-test : x .owner ≢ suc i → ofSession i x ≡ false
+  unfolding ofSession
+  other-test n = ne-eqb (x .owner) (suc i) n
+
+  owned : ofSession i x ≡ true → x .owner ≡ suc i
+  unfolding ofSession
+  owned e = eqb-true (x .owner) (suc i) e
+
+  module _ (n : ℕ) where
+    pub own-upTo : x .owner ≡ suc i → x .number ≤ n → upToNumber i n x ≡ true
+    own-upTo o l = ap (λ b. b && leb (x .number) n) (own-test o) ∙ le-leb (x .number) n l
+
+    pub none-upTo : (x .owner ≡ suc i → n < x .number) → upToNumber i n x ≡ false
+    none-upTo l = go (ofSession i x) refl
+      where
+        go : (b : Bool) → ofSession i x ≡ b → (b && leb (x .number) n) ≡ false
+        go true e = lt-leb (x .number) n (l (owned e))
+        go false e = refl
+
+    all-upTo : (x .owner ≡ suc i → x .number ≤ n) → ind (ofSession i x) ≤ ind (upToNumber i n x)
+    unfolding ind
+    all-upTo l = go (ofSession i x) refl
+      where
+        go : (b : Bool) → ofSession i x ≡ b → ind b ≤ ind (b && leb (x .number) n)
+        go true e = omega (arith, ap ind (le-leb (x .number) n (l (owned e))))
+        go false e = omega arith
+
+    pub upTo-is : upToNumber i n x ≡ true → (x .owner ≡ suc i) × (x .number ≤ n)
+    upTo-is = go (ofSession i x) refl
+      where
+        go : (b : Bool) → ofSession i x ≡ b → (b && leb (x .number) n) ≡ true → (x .owner ≡ suc i) × (x .number ≤ n)
+        go true e f = (owned e, leb-true (x .number) n f)
+        go false e f = absurd (not-both f)
 
 module _ (sheet : Sheet) (told : ℕ → List ℕ) where
   -- a packet's number lies among those of its slot
@@ -113,33 +153,17 @@ module _ (sheet : Sheet) (told : ℕ → List ℕ) where
       a = got sheet told i
 
   module _ (curves : Curves sheet) (i t : ℕ) (h : i < sessionCount sheet) where
-    own-test : (x : Packet) → x .owner ≡ suc i → ofSession i x ≡ true
-    unfolding ofSession
-    own-test x o = eq-eqb (x .owner) (suc i) o
-
-    owned : (x : Packet) → ofSession i x ≡ true → x .owner ≡ suc i
-    unfolding ofSession
-    owned x e = eqb-true (x .owner) (suc i) e
-
     -- THOSE THAT WAIT have the numbers after k
     pub waiting-after : (y : Packet) → List·Memᴰ y (past sheet told t .waiting) → y .owner ≡ suc i
         → countAll (ofSession i) (past sheet told t .sent) < y .number
-    unfolding ind
     waiting-after y m o =
         omega (
           arith,
           counted i t (y .number) h,
-          count-some (upToNumber i (y .number)) y (past sheet told t .waiting) m
-              (ap (λ b. b && leb (y .number) (y .number)) (own-test y o) ∙ le-leb (y .number) (y .number) (omega arith)),
-          countAll-le-in (ofSession i) (upToNumber i (y .number)) (past sheet told t .sent) lower,
+          count-some (upToNumber i (y .number)) y (past sheet told t .waiting) m (own-upTo i y (y .number) o (omega arith)),
+          countAll-le-in (ofSession i) (upToNumber i (y .number)) (past sheet told t .sent)
+              (λ l x k n. all-upTo i x (y .number) (λ e. turn curves t l x y k n m (e ∙ sym o))),
         )
-      where
-        lower : (l : List Packet) (x : Packet) → List·Memᴰ l (past sheet told t .sent) → List·Memᴰ x l → ind (ofSession i x) ≤ ind (upToNumber i (y .number) x)
-        lower l x k n = go (ofSession i x) refl
-          where
-            go : (b : Bool) → ofSession i x ≡ b → ind b ≤ ind (b && leb (x .number) (y .number))
-            go true e = omega (arith, ap ind (le-leb (x .number) (y .number) (turn curves t l x y k n m (owned x e ∙ sym o))))
-            go false e = omega arith
 
     -- THOSE SENT have the numbers up to k
     pub sent-upTo : (l : List Packet) (x : Packet) → List·Memᴰ l (past sheet told t .sent) → List·Memᴰ x l → x .owner ≡ suc i
@@ -156,14 +180,29 @@ module _ (sheet : Sheet) (told : ℕ → List ℕ) where
               arith,
               counted i t n h,
               within t i x a o,
-              count-no (upToNumber i n) (past sheet told t .waiting) higher,
+              count-no (upToNumber i n) (past sheet told t .waiting)
+                  (λ y p. none-upTo i y n (λ f. omega (arith, turn curves t l x y k m p (o ∙ sym f)))),
               countAll-lt (upToNumber i n) (ofSession i) (λ z. ind-and-left (ofSession i z) (leb (z .number) n)) x l (past sheet told t .sent) k m
-                  (ap (λ b. b && leb (x .number) n) (own-test x o) ∙ lt-leb (x .number) n (omega arith)) (own-test x o),
+                  (none-upTo i x n (λ f. omega arith)) (own-test i x o),
             )
-          where
-            higher : (y : Packet) → List·Memᴰ y (past sheet told t .waiting) → upToNumber i n y ≡ false
-            higher y p = test (ofSession i y) refl
-              where
-                test : (b : Bool) → ofSession i y ≡ b → (b && leb (y .number) n) ≡ false
-                test true f = lt-leb (y .number) n (omega (arith, turn curves t l x y k m p (o ∙ sym (owned y f))))
-                test false f = refl
+
+    -- so of those sent the numbers up to n are 1..k up to n, each once
+    pub sent-numbers : (n : ℕ) → countAll (upToNumber i n) (past sheet told t .sent) ≡ min (countAll (ofSession i) (past sheet told t .sent)) n
+    sent-numbers n = go (le-or-lt (countAll (ofSession i) (past sheet told t .sent)) n)
+      where
+        go : (countAll (ofSession i) (past sheet told t .sent) ≤ n) ⊎ (n < countAll (ofSession i) (past sheet told t .sent))
+            → countAll (upToNumber i n) (past sheet told t .sent) ≡ min (countAll (ofSession i) (past sheet told t .sent)) n
+        go (inl j) =
+            omega (
+              arith,
+              countAll-le (upToNumber i n) (ofSession i) (λ z. ind-and-left (ofSession i z) (leb (z .number) n)) (past sheet told t .sent),
+              countAll-le-in (ofSession i) (upToNumber i n) (past sheet told t .sent)
+                  (λ l x k m. all-upTo i x n (λ o. omega (arith, sent-upTo l x k m o))),
+            )
+        go (inr j) =
+            omega (
+              arith,
+              counted i t n h,
+              taken-split sheet told i t h,
+              count-no (upToNumber i n) (past sheet told t .waiting) (λ y m. none-upTo i y n (λ o. omega (arith, waiting-after y m o))),
+            )

@@ -14,7 +14,7 @@ use Rattle.layout.specs.Part.{block-length}
 use Rattle.guard.specs.Opened.{Opened}
 use Rattle.guard.specs.Test.{Small, Climbs, Numbers, Passes, passes-sound, sound-passes}
 use Rattle.send.specs.Send.{noteNumbers}
-use Rattle.run.specs.Intakes.{outcomeNumbers}
+use Rattle.intake.specs.Intakes.{outcomeNumbers}
 use Rattle.run.specs.Why.{capacityOf, periodOf, countOf, doneOf, Why}
 
 -- what is decided stays so under and, under all below a bound, and under what means the same

@@ -1,5 +1,4 @@
 -- What a slot does to the run, the outcomes and the tally.
-pub mod Intakes
 pub mod Summed
 pub mod Brought
 pub mod Why

@@ -10,7 +10,7 @@ use Rattle.sheet.specs.Limits.{mostCapacity}
 use Rattle.layout.specs.Layout.{doneAt}
 use Rattle.send.specs.Send.{sendRun, sendNotes, sendCount, SentAll}
 use Rattle.send.specs.Sent.{sendCount-most}
-use Rattle.run.specs.Intakes.{intakesOf, outcomesOf}
+use Rattle.intake.specs.Intakes.{intakesOf, outcomesOf}
 use Rattle.run.specs.Summed.{sumsOf}
 use Rattle.run.specs.Brought.{Within, totalsOf, broughtUp, brought-which}
 use Rattle.run.specs.Why.{capacityOf, periodOf, countOf, doneOf, Fit, Why, one-why, fit-of, why-few}

@@ -11,7 +11,7 @@ use Rattle.layout.specs.Layout.{runNumbers, blockNumbers, roomAt, takenAt, sent
 use Rattle.layout.specs.Sound.{Sound}
 use Rattle.layout.specs.Part.{part-at, part-lent}
 use Rattle.intake.specs.Share.{shareOf, headroomOf, freeOf}
-use Rattle.run.specs.Intakes.{AllSound, shareAt}
+use Rattle.intake.specs.Intakes.{AllSound, shareAt}
 use Rattle.intake.specs.declared.Share.{Share}
 use Rattle.run.specs.declared.tally.Sums.{Sums}
 

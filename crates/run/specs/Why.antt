@@ -9,7 +9,7 @@ use Rattle.layout.specs.Layout.{runNumbers, capacityAt, periodAt, countAt, done
 use Rattle.layout.specs.Sound.{mostSlots}
 use Rattle.guard.specs.Opened.{Opened}
 use Rattle.send.specs.Send.{noteNumbers}
-use Rattle.run.specs.Intakes.{AllSound, outcomeNumbers}
+use Rattle.intake.specs.Intakes.{AllSound, outcomeNumbers}
 
 -- the head's numbers
 abbrev pub capacityOf : List ℕ → ℕ

@@ -3,7 +3,7 @@ ghost use mathlib.Core.Path.{_≡_};
 ghost use Prim.Native.Nat.{_*_, _<_, _≤_};
 ghost use lib.ListN.{length};
 ghost use Rattle.layout.specs.Sound.{mostSlots};
-ghost use Rattle.run.specs.Intakes.{AllSound, outcomeNumbers, intakesOf, outcomesOf};
+ghost use Rattle.intake.specs.Intakes.{AllSound, outcomeNumbers, intakesOf, outcomesOf};
 use layout::BLOCK_NUMBERS;
 use layout::HEAD_NUMBERS;
 

@@ -1,9 +1,15 @@
 -- Each answer is that of the verdict's case. Assumes nothing.
 use mathlib.Core.Path.{_≡_, sym, ap, _∙_}
+use mathlib.Core.List.{List, _++_}
+use Prim.Native.Nat.{ℕ}
 use native.Mathlib.Omega.{arith}
 use borrow.Author.Needs.{needs}
 use denote.Ref.{now}
+use lib.ListN.{drop}
+use Rattle.sheet.specs.Bytes.{sheetOf}
 use Rattle.verdict.specs.Verdict.{passed, failed, unreadable}
+use Rattle.layout.specs.Layout.{runNumbers}
+use Rattle.history.specs.Opened.{opened-run}
 use Rattle.opening.specs.Open.{opens-short, opens-by}
 use Rattle.opening.proofs.open.Statement.{statement}
 use Rattle.opening.proofs.open.Tie as tie
@@ -44,7 +50,7 @@ same-length c = search needs
 returns-4 : tie.Need-returns-4
 returns-4 c =
     let s = c .before .before .before .before .before .before .before .before .before .before in
-    rw (c .before .before .fill .ensures .0, c .before .before .fill .ensures .1)
+    rw (c .before .before .fill .ensures .0, c .before .before .fill .ensures .1 ∙ ap (λ (l : List ℕ). l ++ drop runNumbers (now (s .args .run))) (opened-run (sheetOf (now (s .args .bytes)))))
     (opens-by (now (s .args .bytes)) (now (s .args .run)) (passed _ _) (c .before .before .before .before .before .before .before .if1 .left) (rw (c .before .before .before .before .enum-told .given .1) at (c .before .before .before .before .before .before .judge .ensures .says)))
 
 pub open-spec : {M : Type 1} → statement M

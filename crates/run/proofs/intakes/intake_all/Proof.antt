@@ -6,7 +6,7 @@ use native.Mathlib.Omega.{arith}
 use lib.ListN.{length, length-set}
 use Rattle.intake.specs.Share.{shareOf}
 use Rattle.intake.specs.Intake.{intakeOf}
-use Rattle.run.specs.Intakes.{intakesOf, outcomesOf, intakes-none, length-intakes, block-lent, intakes-more, outcomes-none, outcomes-more}
+use Rattle.intake.specs.Intakes.{intakesOf, outcomesOf, intakes-none, length-intakes, block-lent, intakes-more, outcomes-none, outcomes-more}
 use Rattle.run.proofs.intakes.intake_all.Statement.{statement}
 use Rattle.run.proofs.intakes.intake_all.Tie as tie
 

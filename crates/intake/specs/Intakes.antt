@@ -100,15 +100,15 @@ module _ (run offers : List ℕ) (P done : ℕ) where
             over-apart (intakesOf run offers P done i) (blockAt i) (intakeOf (block run i) P done (getD offers i 0)) (blockAt j) blockNumbers (omega arith) (inl (omega arith))
             ∙ ih a
 
-    -- the head, and the numbers past the run's, are as they were
-    pub intakes-out : (n : ℕ) → n ≤ mostSessions → (x : ℕ) → (x < headNumbers) ⊎ (runNumbers ≤ x) → getD (intakesOf run offers P done n) x 0 ≡ getD run x 0
+    -- the head, and the numbers past the blocks whose turn has come, are as they were
+    pub intakes-out : (n : ℕ) → n ≤ mostSessions → (x : ℕ) → (x < headNumbers) ⊎ (blockAt n ≤ x) → getD (intakesOf run offers P done n) x 0 ≡ getD run x 0
     unfolding intakesOf
     intakes-out zero h x d = refl
-    intakes-out (suc i) h x d = over-out (intakesOf run offers P done i) (blockAt i) (intakeOf (block run i) P done (getD offers i 0)) x (go d) ∙ intakes-out i (omega arith) x d
-      where
-        go : (x < headNumbers) ⊎ (runNumbers ≤ x) → (x < blockAt i) ⊎ (blockAt i + length (intakeOf (block run i) P done (getD offers i 0)) ≤ x)
-        go (inl a) = inl (omega arith)
-        go (inr a) = inr (omega (arith, new-length i h))
+    intakes-out (suc i) h x (inl a) =
+        over-out (intakesOf run offers P done i) (blockAt i) (intakeOf (block run i) P done (getD offers i 0)) x (inl (omega arith)) ∙ intakes-out i (omega arith) x (inl a)
+    intakes-out (suc i) h x (inr a) =
+        over-out (intakesOf run offers P done i) (blockAt i) (intakeOf (block run i) P done (getD offers i 0)) x (inr (omega (arith, new-length i h)))
+        ∙ intakes-out i (omega arith) x (inr (omega arith))
 
     -- one more session: its block is lent, and comes back
     pub block-lent : (i : ℕ) → i < mostSessions → (z : List ℕ) → z ≡ intakesOf run offers P done i → take (blockAt i + blockNumbers - blockAt i) (drop (blockAt i) z) ≡ block run i

@@ -1,0 +1,6 @@
+-- One slot of the machine is one slot of the rules: intake, deadlines and sending.
+pub mod Share
+pub mod Intake
+pub mod Queue
+pub mod Sending
+pub mod Waiting
