@@ -1,12 +1,11 @@
 -- Sending by the numbers of a run is the rules' sending of what waits: the same packets, in the same order, with the same notes. Assumes nothing.
 use mathlib.Core.Path.{_≡_, refl, sym, ap, _∙_}
 use mathlib.Core.Logic.{_≢_}
-use mathlib.Core.List.{List, [], _∷_, _++_, append-assoc}
+use mathlib.Core.List.{List, [], _∷_, _++_}
 use Prim.Native.Nat.{ℕ, zero, suc, _+_, _*_, _≤_, _<_}
 use native.Mathlib.Omega.{arith}
 use native.Mathlib.Decide.{ℕ-discrete}
-use lib.ListN.{length, drop, set, length-append, length-drop}
-use lib.Seq.{sets-eq, take-at, drop-append-add, drop-drop}
+use lib.ListN.{length, drop, length-append}
 use Rattle.curve.specs.Delay.{slotsOf}
 use Rattle.sheet.specs.Limits.{mostSessions}
 use Rattle.layout.specs.Layout.{runNumbers}
@@ -18,32 +17,8 @@ use Rattle.send.specs.Choice.{sentOf, chosen}
 use Rattle.send.specs.Send.{noteNumbers, note, noted-is, raised, stepRun-stay, stepRun-go, stepNotes-stay, stepNotes-go, stepCount-stay, stepCount-go, sendRun, sendRun-zero, sendRun-suc}
 use Rattle.send.specs.Send.{sendNotes, sendNotes-zero, sendNotes-suc, sendCount, sendCount-zero, sendCount-suc}
 use Rattle.send.specs.Sent.{raised-here, raised-there, length-sendRun, sendCount-all}
+use Rattle.exact.specs.Written.{notesOf, length-notesOf, notesOf-append, three-more}
 use Rattle.exact.specs.Queue.{Queue, Head, none-chosen, goes, left}
-
--- the numbers that note packets sent
-unfoldable pub notesOf : List Packet → List ℕ
-notesOf [] = []
-notesOf (x ∷ l) = x .owner ∷ x .number ∷ slotsOf (x .due) ∷ notesOf l
-
-pub length-notesOf : (l : List Packet) → length (notesOf l) ≡ noteNumbers * length l
-unfolding notesOf
-length-notesOf [] = refl
-length-notesOf (x ∷ l) = omega (arith, length-notesOf l)
-
-pub notesOf-append : (l m : List Packet) → notesOf (l ++ m) ≡ notesOf l ++ notesOf m
-unfolding notesOf
-notesOf-append [] m = refl
-notesOf-append (x ∷ l) m = rw (notesOf-append l m)
-
--- three numbers stored one after the other
-three-set : (p q : List ℕ) (n a b c : ℕ) → length p ≡ n → 3 ≤ length q → set (set (set (p ++ q) (n + 0) a) (n + 1) b) (n + 2) c ≡ p ++ (a ∷ b ∷ c ∷ drop 3 q)
-three-set p q n a b c e h =
-    let e0 : n + 0 ≡ n = omega arith in
-    let e1 : n + 1 ≡ suc n = omega arith in
-    let e2 : n + 2 ≡ suc (suc n) = omega arith in
-    let size : n + 3 ≤ length (p ++ q) = omega (arith, length-append p q) in
-    let rest : drop (n + 3) (p ++ q) ≡ drop 3 q = ap (λ k. drop (k + 3) (p ++ q)) (sym e) ∙ drop-append-add p q 3 in
-    rw (e0, e1, e2) (sets-eq (a ∷ b ∷ c ∷ []) (p ++ q) n size ∙ rw (take-at p q n e, rest, append-assoc))
 
 -- a note after those of s, over the numbers that stood there
 note-next : (s : List Packet) (x : Packet) (notes : List ℕ) → noteNumbers * suc (length s) ≤ length notes
@@ -52,9 +27,9 @@ note-next : (s : List Packet) (x : Packet) (notes : List ℕ) → noteNumbers * 
 unfolding note notesOf
 note-next s x notes h =
     let at = noteNumbers * length s in
+    let first : at + 0 ≡ at = omega arith in
     let more : at + 3 ≡ noteNumbers * length (s ++ (x ∷ [])) = omega (arith, length-append s (x ∷ [])) in
-    three-set (notesOf s) (drop at notes) at (x .owner) (x .number) (slotsOf (x .due)) (length-notesOf s) (omega (arith, length-drop at notes))
-    ∙ rw (drop-drop 3 at notes, more, notesOf-append s (x ∷ []), append-assoc)
+    rw first (three-more (notesOf s) notes at (x .owner) (x .number) (slotsOf (x .due)) (length-notesOf s) (omega arith) ∙ rw (more, notesOf-append s (x ∷ [])))
 
 -- up to k steps of the run have sent s and left l
 pub record Same (run : List ℕ) (sessions k : ℕ) (s l : List Packet) : Type 0 where

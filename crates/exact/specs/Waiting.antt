@@ -25,7 +25,8 @@ use Rattle.rules.specs.Turn.{upToNumber, counted, waiting-after, sent-numbers}
 use Rattle.send.specs.Choice.{takenOf, sentOf}
 use Rattle.send.specs.Send.{noteNumbers, sendRun, sendNotes, sendCount}
 use Rattle.exact.specs.Queue.{Queued, Queue}
-use Rattle.exact.specs.Sending.{notesOf, count-is, sent-is, notes-are}
+use Rattle.exact.specs.Written.{notesOf}
+use Rattle.exact.specs.Sending.{count-is, sent-is, notes-are}
 
 -- all that slot t + 1 has to choose from: what waited, and what it took in
 abbrev pub choices : Sheet → (ℕ → List ℕ) → ℕ → List Packet
