@@ -87,6 +87,14 @@ module _ (sheet : Sheet) (made : WellMade sheet) (told : ℕ → List ℕ) (t : 
   pub shares-are : (i : ℕ) → i < sessionCount sheet → shareAt run (told t) i ≡ shareBy sheet (past sheet told t) i (getD (told t) i 0)
   shares-are i h = ap (λ (b : List ℕ). shareOf b (getD (told t) i 0)) (block-is i h) ∙ share-is sheet told made i t h (getD (told t) i 0)
 
+  -- what waits of a session
+  pub waits-are : (i : ℕ) → i < sessionCount sheet → getD (block run i) takenAt 0 - getD (block run i) sentAt 0 ≡ waitingOf (past sheet told t) i
+  waits-are i h =
+      let s = session sheet i in
+      let m = movingAt (sheet .period) s (gets i) (went i) t in
+      let r = block-reads s m (fitting (sheet .period) s (made .each i h) (gets i) (went i) t) in
+      rw (block-is i h) (omega (arith, r .fields takenAt (omega arith), r .fields sentAt (omega arith), taken-split sheet told i t h))
+
   -- INTAKE of all sessions
   unfoldable pub taken : List ℕ
   taken = intakesOf run (told t) (sheet .period) t (sessionCount sheet)

@@ -51,7 +51,7 @@ module _ (sheet : Sheet) (told : ℕ → List ℕ) where
       ∙ countTo-cong (λ q. ofSession i (newPacket sheet told i u q) && r (newPacket sheet told i u q)) (λ q. r (newPacket sheet told i u q)) (got sheet told i u)
       (λ q k l. ap (λ b. b && r (newPacket sheet told i u q)) (own i u q))
 
-  new-all : (u : ℕ) → new sheet told (λ x. true) u ≡ total (λ i. got sheet told i u) (sessionCount sheet)
+  pub new-all : (u : ℕ) → new sheet told (λ x. true) u ≡ total (λ i. got sheet told i u) (sessionCount sheet)
   unfolding new
   new-all u = total-cong _ _ (sessionCount sheet) (λ i h. countTo-all (λ q. true) (got sheet told i u) (λ q. refl))
 

@@ -18,3 +18,4 @@ pub mod Turn
 pub mod Ahead
 pub mod Tables
 pub mod Examples
+pub mod Sums

@@ -4,3 +4,4 @@ pub mod Brought
 pub mod Why
 pub mod Decided
 pub mod Slot
+pub mod ByRules

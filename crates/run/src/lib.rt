@@ -99,3 +99,20 @@ pub fn slot_by_value(
         },
     }
 }
+
+// One slot: any slices, any tally. A refused call leaves the slices and the tally as they came.
+pub fn slot(
+    run: &mut [u32],
+    offers: &[u8],
+    outcomes: &mut [u32],
+    sent: &mut [u32],
+    tally: &mut Tally,
+) -> Answer
+    ensures { λ r. ⌜ Slots (now (run .entry)) (now (offers .entry)) (now (outcomes .entry)) (now (sent .entry)) (now (tally .entry)) (now (run .exit)) (now (outcomes .exit)) (now (sent .exit)) (now (tally .exit)) (told r) ⌝ }
+{
+    let before = *tally;
+    let slotted = slot_by_value(run, offers, outcomes, sent, before);
+    let after = slotted.tally;
+    *tally = after;
+    slotted.answer
+}
