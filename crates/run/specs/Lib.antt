@@ -5,3 +5,4 @@ pub mod Why
 pub mod Decided
 pub mod Slot
 pub mod ByRules
+pub mod Exact
