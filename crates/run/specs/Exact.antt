@@ -229,7 +229,6 @@ pub record Promises (run offers outcomes notes : List ℕ) (tally : Tally) (run�
   pub rules : FollowsRules run offers outcomes notes tally run′ outcomes′ notes′ tally′ reply
 
 -- THE THEOREM: the second follows from the first
-pub promises : (run offers outcomes notes : List ℕ) (tally : Tally) (run′ outcomes′ notes′ : List ℕ) (tally′ : Tally) (reply : Reply)
+pub promises : {run offers outcomes notes : List ℕ} {tally : Tally} {run′ outcomes′ notes′ : List ℕ} {tally′ : Tally} {reply : Reply}
     → Slots run offers outcomes notes tally run′ outcomes′ notes′ tally′ reply → Promises run offers outcomes notes tally run′ outcomes′ notes′ tally′ reply
-promises run offers outcomes notes tally run′ outcomes′ notes′ tally′ reply s =
-    record { machine = s; rules = λ sheet made history most is. by-rules run offers outcomes notes tally run′ outcomes′ notes′ tally′ reply s sheet made history most is }
+promises s = record { machine = s; rules = by-rules _ _ _ _ _ _ _ _ _ _ s }

@@ -1,6 +1,7 @@
 // The run of a link, slot by slot, in a lent slice of numbers.
 ghost use Rattle.run.specs.Why.{Why};
-ghost use Rattle.run.specs.Slot.{told, Slots};
+ghost use Rattle.run.specs.Slot.{told};
+ghost use Rattle.run.specs.Exact.{Promises};
 use layout::CAPACITY_AT;
 use layout::COUNT_AT;
 use layout::DONE_AT;
@@ -68,7 +69,7 @@ pub fn slot_by_value(
     sent: &mut [u32],
     tally: Tally,
 ) -> Slotted
-    ensures { λ r. ⌜ Slots (now (run .entry)) (now (offers .entry)) (now (outcomes .entry)) (now (sent .entry)) tally (now (run .exit)) (now (outcomes .exit)) (now (sent .exit)) (r .tally) (told (r .answer)) ⌝ }
+    ensures { λ r. ⌜ Promises (now (run .entry)) (now (offers .entry)) (now (outcomes .entry)) (now (sent .entry)) tally (now (run .exit)) (now (outcomes .exit)) (now (sent .exit)) (r .tally) (told (r .answer)) ⌝ }
 {
     let why = refusal(run, offers, outcomes.len(), sent.len());
     if why != 0 {
@@ -108,7 +109,7 @@ pub fn slot(
     sent: &mut [u32],
     tally: &mut Tally,
 ) -> Answer
-    ensures { λ r. ⌜ Slots (now (run .entry)) (now (offers .entry)) (now (outcomes .entry)) (now (sent .entry)) (now (tally .entry)) (now (run .exit)) (now (outcomes .exit)) (now (sent .exit)) (now (tally .exit)) (told r) ⌝ }
+    ensures { λ r. ⌜ Promises (now (run .entry)) (now (offers .entry)) (now (outcomes .entry)) (now (sent .entry)) (now (tally .entry)) (now (run .exit)) (now (outcomes .exit)) (now (sent .exit)) (now (tally .exit)) (told r) ⌝ }
 {
     let before = *tally;
     let slotted = slot_by_value(run, offers, outcomes, sent, before);

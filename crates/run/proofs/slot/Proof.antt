@@ -42,7 +42,8 @@ use denote.Triple.Clauses.{ensured, lasts}
 use denote.Triple.Table.{entered, cited}
 use denote.Triple.Walked.{says, Stays, stay-ref, gave-slice, stay-none-slice, walkOf, AllGo, goes-none-slice, goes-gave-slice, goes-ref, Walks, ends-at, walked, walk-meets}
 use denote.Exit.{yes}
-use Rattle.run.specs.Slot.{told, Slots}
+use Rattle.run.specs.Slot.{told}
+use Rattle.run.specs.Exact.{Promises}
 use Rattle.run.specs.declared.Answer.{Answer}
 use Rattle.run.specs.declared.Slotted.{Slotted}
 use Rattle.run.specs.declared.tally.Tally.{Tally}
@@ -131,7 +132,7 @@ module _ {M : Type 1} (𝓤 : URA M) (H : Heap 𝓤) (A : Atoms 𝓤) (W : Given
 
   -- what `slot_by_value` promises, at what it returns and leaves
   abbrev Promised : Slotted → Lasts → Type 0
-  Promised s zs = Slots (run .now) (offers .now) (outcomes .now) (sent .now) h (zs .0) (zs .1 .1 .0) (zs .1 .1 .1 .0) (s .tally) (told (s .answer))
+  Promised s zs = Promises (run .now) (offers .now) (outcomes .now) (sent .now) h (zs .0) (zs .1 .1 .0) (zs .1 .1 .1 .0) (s .tally) (told (s .answer))
 
   -- the tokens of the four slices, and of all five parameters
   abbrev Four : Item 𝓤

@@ -7,6 +7,7 @@ use lib.ListN.{length, length-set}
 use Rattle.run.specs.Summed.{all-sharing}
 use Rattle.run.specs.Brought.{broughtUp, small-waiting}
 use Rattle.run.specs.Why.{capacityOf, Fit, fit-of, fit-sound}
+use Rattle.run.specs.Exact.{promises}
 use Rattle.run.specs.Slot.{slotBrings, slots-refused, slots-much, slots-run, runs-by, sent-small}
 use Rattle.run.proofs.slot_by_value.Statement.{statement}
 use Rattle.run.proofs.slot_by_value.Tie as tie
@@ -28,7 +29,8 @@ same-length c = search needs
 returns : tie.Need-returns
 returns c =
     let a = c .before .before .before .before .before .before .before .args in
-    slots-refused (now (a .run)) (now (a .offers)) (now (a .outcomes)) (now (a .sent)) (a .tally) (c .before .refusal .result) (c .before .refusal .ensures) (c .if1 .taken)
+    promises
+    (slots-refused (now (a .run)) (now (a .offers)) (now (a .outcomes)) (now (a .sent)) (a .tally) (c .before .refusal .result) (c .before .refusal .ensures) (c .if1 .taken))
 
 slice-read-capacity : tie.Need-slice-read-capacity
 slice-read-capacity c = omega (arith, fit (c .before) .size)
@@ -97,8 +99,9 @@ returns-2 : tie.Need-returns-2
 returns-2 c =
     let a = c .before .before .before .before .before .before .before .before .before .before .before .before .before .before .before .before .before .before .before .before .before .before .before .before .before .before .before .before .before .before .before .args in
     let i = c .before .before .before .before .before .before .before .before .before .before .before .intake-all in
-    slots-run (now (a .run)) (now (a .offers)) (now (a .outcomes)) (now (a .sent)) (a .tally) _ _ _ _ _ (fit (c .before .before .before .before .before .before .before .before .before .before .before .before .before .before .before .before .before .before .before .before .before .before .before .before)) (sym (brings (c .before .before .before .before .before .before .before .before .before .before .before .before .before .before .before .before .before)) ∙ c .before .before .before .before .before .before .before .before .before .before .before .before .before .before .before .brought .given .1)
-    (runs-by (now (a .run)) (now (a .offers)) (now (a .outcomes)) (now (a .sent)) _ _ _ _ _ _ (i .ensures .0) (i .ensures .1) (c .before .before .before .before .send .ensures))
+    promises
+    (slots-run (now (a .run)) (now (a .offers)) (now (a .outcomes)) (now (a .sent)) (a .tally) _ _ _ _ _ (fit (c .before .before .before .before .before .before .before .before .before .before .before .before .before .before .before .before .before .before .before .before .before .before .before .before)) (sym (brings (c .before .before .before .before .before .before .before .before .before .before .before .before .before .before .before .before .before)) ∙ c .before .before .before .before .before .before .before .before .before .before .before .before .before .before .before .brought .given .1)
+    (runs-by (now (a .run)) (now (a .offers)) (now (a .outcomes)) (now (a .sent)) _ _ _ _ _ _ (i .ensures .0) (i .ensures .1) (c .before .before .before .before .send .ensures)))
 
 same-length-5 : tie.Need-same-length-5
 same-length-5 c = search needs
@@ -106,7 +109,8 @@ same-length-5 c = search needs
 returns-3 : tie.Need-returns-3
 returns-3 c =
     let a = c .before .before .before .before .before .before .before .before .before .before .before .before .before .before .before .before .args in
-    slots-much (now (a .run)) (now (a .offers)) (now (a .outcomes)) (now (a .sent)) (a .tally) (fit (c .before .before .before .before .before .before .before .before .before)) (sym (brings (c .before .before)) ∙ c .enum-told .given .1)
+    promises
+    (slots-much (now (a .run)) (now (a .offers)) (now (a .outcomes)) (now (a .sent)) (a .tally) (fit (c .before .before .before .before .before .before .before .before .before)) (sym (brings (c .before .before)) ∙ c .enum-told .given .1))
 
 pub slot-by-value-spec : {M : Type 1} → statement M
 slot-by-value-spec =
