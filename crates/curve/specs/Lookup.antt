@@ -1,15 +1,15 @@
 -- What the look-ups on a table of bytes ask, and the closed forms that they compute by. Assumes nothing.
-use mathlib.Core.Path.{_≡_, refl, sym, ap, _∙_}
+use mathlib.Core.Path.{_≡_, ap, _∙_}
 use mathlib.Core.List.{List}
 use mathlib.Core.Logic.{_⊎_, inl, inr}
 use Prim.Native.Nat.{ℕ, zero, suc, _+_, _-_, _*_, _/_, _≤_, _<_}
-use native.Mathlib.Nat.{div-mul-le-self, lt-div-mul-add, mul-le-mul, mul-le-mul-left, mul-le-mul-right, div-le-self}
+use native.Mathlib.Nat.{div-mul-le-self, lt-div-mul-add, mul-le-mul-left}
 use native.Mathlib.Numerals.{add-one}
 use native.Mathlib.Omega.{arith}
 use lib.ListN.{length, getD}
 use Rattle.words.specs.Words.{words}
 use Rattle.curve.specs.Order.{le-or-lt}
-use Rattle.curve.specs.Curve.{Curve, entry, at, at-table, at-entry, at-periods}
+use Rattle.curve.specs.Curve.{Curve, at, at-table, at-periods}
 use Rattle.curve.specs.Rises.{IsCurve, at-rises}
 use Rattle.curve.specs.Delay.{First}
 

@@ -1,8 +1,8 @@
 -- A slot's intake makes of a session's block after t slots the block after t + 1: the tables ahead, the ring of deadlines and the number taken in are exact. Assumes nothing.
 use mathlib.Core.Path.{_≡_, refl, sym, ap, ap₂, _∙_}
-use mathlib.Core.Logic.{_⊎_, inl, inr, _≢_}
+use mathlib.Core.Logic.{_⊎_, inl, inr}
 use mathlib.Core.List.{List}
-use Prim.Native.Nat.{ℕ, zero, suc, _+_, _-_, _%_, _≤_, _<_, min}
+use Prim.Native.Nat.{ℕ, zero, suc, _+_, _%_, _≤_, _<_, min}
 use native.Mathlib.Omega.{arith}
 use native.Mathlib.Decide.{ℕ-discrete}
 use lib.ListN.{length, getD, set, List·getD-eq-default}
@@ -14,10 +14,10 @@ use Rattle.curve.specs.Rises.{IsCurve}
 use Rattle.curve.specs.Delay.{Due, slot, never, slotsOf, delay, delay-slot}
 use Rattle.sheet.specs.Limits.{longestTable}
 use Rattle.sheet.specs.Sheet.{Session, WellMadeSession}
-use Rattle.rules.specs.Deadline.{shift, deadline}
+use Rattle.rules.specs.Deadline.{shift}
 use Rattle.rules.specs.Ahead.{ahead, ahead-suc}
 use Rattle.rules.specs.Tables.{keptCurve, kept-at, deadline-table}
-use Rattle.layout.specs.Layout.{blockNumbers, serviceLengthAt, envelopeLengthAt, takenAt, serviceAt, envelopeAt, serviceAheadAt, envelopeAheadAt, deadlinesAt, ring, part, service, envelope, serviceAhead, envelopeAhead}
+use Rattle.layout.specs.Layout.{blockNumbers, serviceLengthAt, envelopeLengthAt, takenAt, serviceAt, envelopeAt, serviceAheadAt, envelopeAheadAt, deadlinesAt, ring, part, service, envelope, serviceAhead}
 use Rattle.layout.specs.Part.{part-at}
 use Rattle.layout.specs.Over.{puts, length-puts}
 use Rattle.layout.specs.Sound.{Sound}
@@ -25,7 +25,7 @@ use Rattle.intake.specs.Advance.{advanced, advanced-at}
 use Rattle.intake.specs.Append.{placeOf, packet, deadlineOf, appended}
 use Rattle.intake.specs.Intake.{tookIn, length-tookIn}
 use Rattle.intake.specs.Taken.{tookIn-front, tookIn-kept, tookIn-taken, tookIn-other, new-service, new-envelope, as-appended}
-use Rattle.history.specs.Image.{Moving, fieldsOf, blockOf}
+use Rattle.history.specs.Image.{fieldsOf, blockOf}
 use Rattle.history.specs.Block.{afterTables, Reads, block-reads, reads-block, service-is, envelope-is, service-ahead-is, envelope-ahead-is}
 use Rattle.history.specs.After.{aheadTable, dueOf, lastAt, ringOf, movingAt}
 use Rattle.history.specs.Tables.{length-ahead, ahead-at, table-holds, length-ring, ring-at, fitting, last-here, last-other, last-most, due-old, due-new}

@@ -1,26 +1,24 @@
 -- EVERY OPENED RUN PASSES THE TEST of refusal 14, before its first slot and after each. Assumes nothing.
-use mathlib.Core.Path.{_≡_, refl, sym, ap, subst, _∙_}
+use mathlib.Core.Path.{_≡_, sym, ap, subst, _∙_}
 use mathlib.Core.List.{List, _++_}
 use Prim.Native.Nat.{ℕ, zero, suc, _+_, _-_, _*_, _≤_, _<_}
-use native.Mathlib.Nat.{mul-le-mul-right}
 use native.Mathlib.Omega.{arith}
 use lib.ListN.{length, getD}
 use Rattle.curve.specs.Least.{least-le, le-least}
 use Rattle.curve.specs.Total.{total}
 use Rattle.curve.specs.Curve.{Curve, at, at-table}
 use Rattle.curve.specs.Rises.{IsCurve}
-use Rattle.sheet.specs.Limits.{mostCapacity, largestValue, mostSessions}
-use Rattle.sheet.specs.Sheet.{Session, Sheet, WellMade, WellMadeCurve, WellMadeSession, session, sessionCount}
+use Rattle.sheet.specs.Limits.{mostCapacity, largestValue}
+use Rattle.sheet.specs.Sheet.{Session, Sheet, WellMade, session, sessionCount}
 use Rattle.rules.specs.Count.{countAll, countAll-snoc, count-length}
-use Rattle.rules.specs.Pick.{send-most}
 use Rattle.rules.specs.Model.{envelopeOf, ofSession, sends, oneSlot, past}
-use Rattle.rules.specs.Curves.{Curves, made-curves, envelope-rises}
+use Rattle.rules.specs.Curves.{made-curves, envelope-rises}
 use Rattle.rules.specs.Facts.{got, envelope-kept}
 use Rattle.rules.specs.Intake.{taken-split, in-room}
 use Rattle.rules.specs.Laws.{sent-most}
 use Rattle.rules.specs.Ahead.{ahead}
 use Rattle.rules.specs.Tables.{keptCurve, kept-curve}
-use Rattle.layout.specs.Layout.{markAt, capacityAt, periodAt, countAt, doneAt, serviceLengthAt, envelopeLengthAt, roomAt, serviceRateAt, envelopeRateAt, takenAt, sentAt, envelopeAheadAt, block, service, envelope, serviceAhead, envelopeAhead}
+use Rattle.layout.specs.Layout.{markAt, capacityAt, periodAt, countAt, doneAt, serviceLengthAt, envelopeLengthAt, roomAt, serviceRateAt, envelopeRateAt, takenAt, sentAt, envelopeAheadAt, block, service, envelope}
 use Rattle.layout.specs.Sound.{mostSlots, mostAhead, Below, Sound}
 use Rattle.guard.specs.Opened.{Opened}
 use Rattle.history.specs.Image.{blockOf}

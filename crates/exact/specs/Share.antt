@@ -1,14 +1,14 @@
 -- What a session's block makes of the packets offered is what the rules make of them: taken in, over and no room. Assumes nothing.
 use mathlib.Core.Path.{_≡_, refl, sym, ap, ap₂, _∙_}
 use mathlib.Core.List.{List}
-use Prim.Native.Nat.{ℕ, zero, suc, _+_, _-_, _≤_, _<_, min}
+use Prim.Native.Nat.{ℕ, zero, suc, _-_, _<_, min}
 use native.Mathlib.Omega.{arith}
-use lib.ListN.{length, getD}
+use lib.ListN.{getD}
 use Rattle.curve.specs.Total.{total}
 use Rattle.curve.specs.Curve.{at}
-use Rattle.sheet.specs.Sheet.{Session, Sheet, WellMade, WellMadeSession, session, sessionCount}
+use Rattle.sheet.specs.Sheet.{Sheet, WellMade, session, sessionCount}
 use Rattle.rules.specs.Count.{countAll}
-use Rattle.rules.specs.Model.{Past, envelopeOf, took, ofSession, waitingOf, headroom, headroomOf, over, takes, noRoom, past}
+use Rattle.rules.specs.Model.{Past, envelopeOf, took, ofSession, waitingOf, headroomOf, over, takes, noRoom, past}
 use Rattle.rules.specs.Facts.{got, slots, took-got, headroom-got}
 use Rattle.rules.specs.Intake.{taken-split}
 use Rattle.rules.specs.Ahead.{ahead, headroom-ahead}

@@ -1,7 +1,7 @@
 -- ONE SLOT IS EXACT: from the run after t slots, the machine's slot makes the run after t + 1, and tells the outcomes and the packets of the rules. Assumes nothing.
 use mathlib.Core.Path.{_≡_, refl, sym, ap, ap₂, subst, _∙_}
 use mathlib.Core.Logic.{_⊎_, inl, inr, _≢_}
-use mathlib.Core.List.{List, [], _∷_, _++_}
+use mathlib.Core.List.{List, _++_}
 use Prim.Native.Nat.{ℕ, zero, suc, _+_, _-_, _*_, _%_, _≤_, _<_}
 use native.Mathlib.Omega.{arith}
 use native.Mathlib.Decide.{ℕ-discrete}
@@ -9,11 +9,11 @@ use lib.ListN.{length, getD, set, drop, length-set}
 use lib.Seq.{getD-set-same, getD-set-other}
 use Rattle.curve.specs.Total.{total, total-suc, total-mono}
 use Rattle.curve.specs.Delay.{Due, slot, slotsOf, delay, delay-slot}
-use Rattle.sheet.specs.Limits.{mostSessions, largestRoom}
+use Rattle.sheet.specs.Limits.{mostSessions}
 use Rattle.sheet.specs.Sheet.{Session, Sheet, WellMade, WellMadeSession, session, sessionCount}
 use Rattle.rules.specs.Count.{countAll}
 use Rattle.rules.specs.Deadline.{shift, deadline}
-use Rattle.rules.specs.Model.{Packet, Past, delayOf, ofSession, waitingOf, packet, joined, past, sends}
+use Rattle.rules.specs.Model.{delayOf, ofSession, waitingOf, packet, joined, past, sends}
 use Rattle.rules.specs.Curves.{Curves, made-curves}
 use Rattle.rules.specs.Facts.{got, slots, got-eq, newPacket}
 use Rattle.rules.specs.Intake.{taken-split, in-room}
@@ -27,12 +27,12 @@ use Rattle.intake.specs.Intakes.{outcomeNumbers, shareAt, intakesOf, told as to
 use Rattle.intake.specs.declared.Share.{Share}
 use Rattle.send.specs.Choice.{sentOf, takenOf}
 use Rattle.send.specs.Send.{noteNumbers, sendRun, sendNotes, sendCount}
-use Rattle.send.specs.Sent.{length-sendRun, sendRun-other, sendRun-head}
-use Rattle.send.specs.SentSound.{sendRun-block}
+use Rattle.send.specs.Sent.{length-sendRun, sendRun-other}
+use Rattle.send.specs.SentBlock.{sendRun-block}
 use Rattle.history.specs.Image.{headOf, blockOf, runOf}
 use Rattle.history.specs.Block.{Reads, block-reads, block-sent}
 use Rattle.history.specs.Run.{RunReads, run-reads, reads-run}
-use Rattle.history.specs.After.{aheadTable, dueOf, lastAt, movingAt, movingOf, runWith}
+use Rattle.history.specs.After.{aheadTable, dueOf, movingAt, movingOf, runWith}
 use Rattle.history.specs.Tables.{table-holds, ring-at, fitting, last-is, due-is}
 use Rattle.exact.specs.Share.{shareBy, moving-got, share-is}
 use Rattle.exact.specs.Intake.{intake-block}

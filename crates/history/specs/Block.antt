@@ -1,5 +1,5 @@
 -- How a session's block reads, place by place: its plain numbers, four tables and the deadlines, with zeros between. A list that reads so is the block. Assumes nothing.
-use mathlib.Core.Path.{_≡_, refl, sym, ap, ap₂, _∙_}
+use mathlib.Core.Path.{_≡_, sym, ap₂, _∙_}
 use mathlib.Core.Logic.{_⊎_, inl, inr, _≢_}
 use mathlib.Core.List.{List}
 use Prim.Native.Nat.{ℕ, zero, _+_, _-_, _≤_, _<_}

@@ -1,9 +1,9 @@
 -- Before slot 1: the run that opening leaves is the run after the empty history. Assumes nothing.
-use mathlib.Core.Path.{_≡_, refl, sym, ap, _∙_, fun-ext}
-use mathlib.Core.List.{List, []}
+use mathlib.Core.Path.{_≡_, sym, ap, _∙_, fun-ext}
+use mathlib.Core.List.{[]}
 use Prim.Native.Nat.{ℕ, zero, suc, _<_}
 use native.Mathlib.Omega.{arith}
-use lib.ListN.{length, getD, replicate, length-replicate}
+use lib.ListN.{length, replicate, length-replicate}
 use lib.Seq.{ext-getD}
 use Rattle.curve.specs.Total.{total, total-zero}
 use Rattle.curve.specs.Curve.{Curve, at, at-table}
@@ -12,12 +12,12 @@ use Rattle.sheet.specs.Sheet.{Session, Sheet, session}
 use Rattle.rules.specs.Steps.{steps}
 use Rattle.rules.specs.Count.{countAll}
 use Rattle.rules.specs.Facts.{listed-at, length-listed}
-use Rattle.rules.specs.Model.{took, opened, after}
+use Rattle.rules.specs.Model.{took, after}
 use Rattle.rules.specs.Ahead.{ahead, ahead-zero}
 use Rattle.layout.specs.Layout.{ring}
 use Rattle.layout.specs.Splice.{zeros-at}
-use Rattle.history.specs.Image.{Moving, runOf, fresh, openedRun}
-use Rattle.history.specs.After.{aheadTable, dueOf, lastAt, ringOf, movingAt, movingOf, runWith, runAfter}
+use Rattle.history.specs.Image.{runOf, fresh, openedRun}
+use Rattle.history.specs.After.{aheadTable, dueOf, lastAt, ringOf, movingAt, runWith, runAfter}
 
 module _ (a : ℕ → ℕ) where
   -- what lies ahead is the curve itself

@@ -2,10 +2,10 @@
 use mathlib.Core.Path.{_≡_, refl, sym, ap, _∙_}
 use mathlib.Core.Logic.{_⊎_, inl, inr}
 use mathlib.Core.List.{List, _++_}
-use Prim.Native.Nat.{ℕ, zero, suc, _+_, _-_, _*_, _/_, _≤_, _<_}
+use Prim.Native.Nat.{ℕ, zero, suc, _+_, _-_, _/_, _≤_, _<_}
 use native.Mathlib.Omega.{arith}
 use lib.ListN.{length, getD, replicate, length-append, length-replicate, List·getD-append, List·getD-eq-default}
-use lib.Seq.{ext-getD, getD-append-add}
+use lib.Seq.{ext-getD}
 use Rattle.curve.specs.Order.{le-or-lt}
 use Rattle.sheet.specs.Limits.{mostSessions}
 use Rattle.sheet.specs.Sheet.{Sheet, session, sessionCount}

@@ -1,13 +1,10 @@
 -- The tables and the ring of a run after so many slots: how long they are, that each table holds what lies ahead of its curve, and which packet's deadline stands where. Assumes nothing.
 use mathlib.Core.Path.{_≡_, refl, sym, ap, _∙_}
 use mathlib.Core.Logic.{_⊎_, inl, inr, _≢_}
-use mathlib.Core.Bool.{Bool, true, false}
-use mathlib.Core.List.{List}
 use Prim.Native.Nat.{ℕ, zero, suc, _+_, _-_, _%_, _≤_, _<_}
 use native.Mathlib.Omega.{arith}
 use native.Mathlib.Decide.{ℕ-discrete}
 use borrow.Author.Tests.{le-leb, lt-leb, eq-eqb, ne-eqb}
-use lib.Dec.{leb, eqb}
 use lib.ListN.{length, getD}
 use lib.Seq.{ext-getD}
 use Rattle.curve.specs.Order.{le-or-lt}
@@ -20,7 +17,6 @@ use Rattle.rules.specs.Deadline.{deadline, deadline-cong}
 use Rattle.rules.specs.Facts.{listed-at, length-listed}
 use Rattle.rules.specs.Ahead.{ahead, Holds}
 use Rattle.layout.specs.Layout.{ring}
-use Rattle.history.specs.Image.{Moving}
 use Rattle.history.specs.Block.{Fitting}
 use Rattle.history.specs.After.{aheadTable, dueOf, lastAt, ringOf, movingAt}
 

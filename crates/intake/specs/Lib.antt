@@ -1,11 +1,8 @@
 -- What a slot takes in of one session: the deadlines, the share, and both tables one slot further.
 pub mod Due
 pub mod Advance
-pub mod Ahead
 pub mod Share
 pub mod Append
-pub mod Deadline
 pub mod Intake
 pub mod Taken
-pub mod Keeps
 pub mod Intakes

@@ -7,13 +7,12 @@ use native.Mathlib.Omega.{arith}
 use lib.ListN.{length, getD}
 use lib.Seq.{getD-set-same, getD-set-other}
 use Rattle.curve.specs.Curve.{Curve}
-use Rattle.layout.specs.Layout.{serviceLengthAt, envelopeLengthAt, roomAt, serviceRateAt, envelopeRateAt, takenAt, sentAt, serviceAt, envelopeAt, serviceAheadAt, envelopeAheadAt, deadlinesAt, ring, part, service, envelope, serviceAhead, envelopeAhead}
+use Rattle.layout.specs.Layout.{serviceLengthAt, envelopeLengthAt, serviceRateAt, envelopeRateAt, takenAt, serviceAt, envelopeAt, serviceAheadAt, envelopeAheadAt, deadlinesAt, part, service, envelope, serviceAhead, envelopeAhead}
 use Rattle.layout.specs.Sound.{Sound}
 use Rattle.layout.specs.Part.{part-same}
 use Rattle.intake.specs.Due.{curveWith}
-use Rattle.layout.specs.Over.{puts-in, puts-out, length-over, over-out, over-part}
+use Rattle.layout.specs.Over.{puts-out, length-over, over-out, over-part}
 use Rattle.intake.specs.Advance.{advanced}
-use Rattle.intake.specs.Share.{freeOf}
 use Rattle.intake.specs.Append.{placeOf, packet, deadlineOf, appended, length-appended}
 use Rattle.intake.specs.Intake.{counted, served, tookIn, length-counted, length-served, length-tookIn, counted-out, service-count, envelope-count}
 
@@ -112,20 +111,3 @@ module _ (b : List ℕ) (P done : ℕ) (ok : Sound b P done) (k : ℕ) where
   pub tookIn-other : (i : ℕ) → deadlinesAt ≤ i → ((q : ℕ) → q < k → placeOf (packet b q) ≡ i → ⊥) → getD (tookIn b P done k) i 0 ≡ getD b i 0
   unfolding appended
   tookIn-other i h n = as-appended i h ∙ puts-out b (λ q. placeOf (packet b q)) (λ q. deadlineOf b P done (packet b q)) k i n
-
-  module _ (fits : k ≤ freeOf b) where
-    -- so the deadlines of the packets that waited stay
-    pub tookIn-old : (N : ℕ) → getD b sentAt 0 < N → N ≤ getD b takenAt 0 → getD (tookIn b P done k) (placeOf N) 0 ≡ getD b (placeOf N) 0
-    tookIn-old N l h =
-        let r : getD b roomAt 0 ≤ 256 = ok .room in
-        let w = ok .waiting in
-        tookIn-other (placeOf N) (omega arith) (λ q s e. omega arith)
-
-    -- and the new packets have theirs
-    pub tookIn-new : (q : ℕ) → q < k → getD (tookIn b P done k) (placeOf (packet b q)) 0 ≡ deadlineOf b P done (packet b q)
-    unfolding appended
-    tookIn-new q h =
-        let r : getD b roomAt 0 ≤ 256 = ok .room in
-        let s : length b ≡ 752 = ok .size in
-        as-appended (placeOf (packet b q)) (omega arith)
-        ∙ puts-in b (λ q. placeOf (packet b q)) (λ q. deadlineOf b P done (packet b q)) k (λ i l. omega arith) (λ i j l m e. omega arith) q h

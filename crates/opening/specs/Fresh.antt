@@ -1,21 +1,19 @@
 -- What a session's block is before slot 1, and how the parts of its bytes give the block's numbers. Assumes nothing.
-use mathlib.Core.Path.{_≡_, refl, sym, ap, _∙_}
-use mathlib.Core.List.{List, [], _∷_, _++_}
-use mathlib.Core.Logic.{_⊎_, inl, inr}
-use Prim.Native.Nat.{ℕ, zero, suc, _+_, _-_, _*_, _/_, _≤_, _<_}
+use mathlib.Core.Path.{_≡_, sym, _∙_}
+use mathlib.Core.List.{List, [], _∷_}
+use mathlib.Core.Logic.{inr}
+use Prim.Native.Nat.{ℕ, zero, suc, _+_, _-_, _/_, _≤_, _<_}
 use native.Mathlib.Omega.{arith}
-use lib.ListN.{length, getD, take, drop, replicate, length-append, length-drop, length-take, length-replicate, getD-replicate, List·getD-append, List·getD-eq-default}
-use lib.Seq.{ext-getD, length-take-le, getD-take, getD-drop, getD-append-add}
-use Rattle.curve.specs.Order.{le-or-lt}
-use Rattle.sheet.specs.Sheet.{Session, Sheet, session}
+use lib.ListN.{length, getD, replicate, length-replicate}
+use Rattle.sheet.specs.Sheet.{Session}
 use Rattle.sheet.specs.Bytes.{recordBytes, sessionOf}
 use Rattle.sheet.specs.Makes.{service-length, envelope-length}
 use Rattle.sheet.specs.Told.{SessionIn}
 use Rattle.sheet.specs.declared.Session.{Session as SessionAt}
-use Rattle.layout.specs.Layout.{runNumbers, headNumbers, blockNumbers, serviceAt, envelopeAt, serviceAheadAt, envelopeAheadAt, deadlinesAt, ring, blockAt, part}
+use Rattle.layout.specs.Layout.{blockNumbers, serviceAt, envelopeAt, serviceAheadAt, envelopeAheadAt, deadlinesAt, ring}
 use Rattle.layout.specs.Over.{over, length-over, over-out}
 use Rattle.layout.specs.Splice.{zeros-at, over-zeros}
-use Rattle.history.specs.Image.{Moving, fieldsOf, tablesOver, ShortTables, blockOf, blocksOver, fresh}
+use Rattle.history.specs.Image.{fieldsOf, tablesOver, ShortTables, blockOf, fresh}
 
 -- a session's block before slot 1: its numbers and its tables over zeros, and no deadline yet
 pub fresh-block : (s : Session) → ShortTables s

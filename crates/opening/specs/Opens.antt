@@ -1,18 +1,17 @@
 -- The blocks that opening writes one after the other: where they lie, that each finds zeros in its place, and what the run is at the end. Assumes nothing.
-use mathlib.Core.Path.{_≡_, refl, sym, ap, _∙_}
+use mathlib.Core.Path.{_≡_, sym, ap, _∙_}
 use mathlib.Core.List.{List, _++_}
-use mathlib.Core.Logic.{_⊎_, inl, inr}
-use Prim.Native.Nat.{ℕ, zero, suc, _+_, _-_, _*_, _≤_, _<_}
+use mathlib.Core.Logic.{inr}
+use Prim.Native.Nat.{ℕ, zero, suc, _+_, _-_, _≤_, _<_}
 use native.Mathlib.Numerals.{add-one}
 use native.Mathlib.Omega.{arith}
 use lib.ListN.{length, getD, take, drop, replicate, length-append, length-replicate, List·getD-append}
 use lib.Seq.{ext-getD}
-use Rattle.sheet.specs.Limits.{mostSessions}
-use Rattle.sheet.specs.Sheet.{Sheet, session, sessionCount, WellMadeSession}
+use Rattle.sheet.specs.Sheet.{Sheet, session}
 use Rattle.sheet.specs.Bytes.{sessionOf, sheetOf}
 use Rattle.verdict.specs.Ready.{Ready, onFrom, sessions-are, few-sessions, session-there, rest-made}
-use Rattle.layout.specs.Layout.{runNumbers, headNumbers, blockNumbers, serviceAt, envelopeAt, serviceAheadAt, envelopeAheadAt, deadlinesAt, blockAt, part}
-use Rattle.layout.specs.Part.{part-length, part-at, part-lent}
+use Rattle.layout.specs.Layout.{runNumbers, blockNumbers, blockAt, part}
+use Rattle.layout.specs.Part.{part-length, part-at}
 use Rattle.layout.specs.Over.{over, length-over, over-out}
 use Rattle.history.specs.Image.{Moving, headOf, ShortTables, blockOf, blocksOver, runOf, fresh, openedRun}
 use Rattle.history.specs.Block.{length-block}

@@ -1,19 +1,15 @@
 -- A fixed amount of history is exact: of a curve and of all slots so far it is enough to keep n numbers, which one rule brings forward from slot to slot.
 -- Over any A, with A(s) the packets taken in by slot s; services and envelopes have one form of table. Assumes nothing.
-use mathlib.Core.Path.{_≡_, refl, ap, _∙_}
-use mathlib.Core.Bool.{Bool, true, false}
+use mathlib.Core.Path.{_≡_, ap, _∙_}
 use mathlib.Core.List.{List}
-use Prim.Native.Nat.{ℕ, suc, _+_, _-_, _*_, _≤_, _<_, min}
-use native.Mathlib.Nat.{mul-le-mul-right}
+use Prim.Native.Nat.{ℕ, suc, _+_, _-_, _<_, min}
 use native.Mathlib.Omega.{arith}
-use borrow.Author.Tests.{leb-true, leb-false}
-use lib.Dec.{leb}
 use lib.ListN.{length, getD}
 use Rattle.curve.specs.Order.{Rises}
 use Rattle.curve.specs.Least.{least, least-cong, least-le, le-least, least-add, least-sub}
 use Rattle.curve.specs.Total.{total}
-use Rattle.curve.specs.Curve.{Curve, at, at-table, at-tail}
-use Rattle.curve.specs.Rises.{IsCurve, at-rises, at-within}
+use Rattle.curve.specs.Curve.{Curve, at, at-tail}
+use Rattle.curve.specs.Rises.{IsCurve}
 use Rattle.rules.specs.Model.{headroom}
 
 -- ahead_t(x): the least of A(s) + F(t+x-s) over s = 0..t, for x ≥ 1
@@ -61,16 +57,6 @@ pub record Holds (P : ℕ) (F : Curve) (A : ℕ → ℕ) (t : ℕ) (l : List ℕ
   pub size : length l ≡ length (F .table)
   pub entry : (j : ℕ) → j < length (F .table) → getD l j 0 ≡ ahead (at P F) A t (suc j)
 
--- the number after the one at j in an old table; after the last, the one a period back and r more
-unfoldable pub following : ℕ → Curve → List ℕ → ℕ → ℕ
-following P F l j = elim (leb (suc (suc j)) (length (F .table))) [ true ↦ getD l (suc j) 0 | false ↦ getD l (length (F .table) - P) 0 + F .rate ]
-
--- before slot 1, and after a reset, the table is the curve's own and what has been taken in
-pub first-holds : (P : ℕ) (F : Curve) (A : ℕ → ℕ) (l : List ℕ) → length l ≡ length (F .table)
-    → ((j : ℕ) → j < length (F .table) → getD l j 0 ≡ A 0 + getD (F .table) j 0)
-    → Holds P F A 0 l
-first-holds P F A l n e = record { size = n; entry = λ j k. rw (e j k, ahead-zero, at-table P F j k) }
-
 module _ (P : ℕ) (F : Curve) (good : IsCurve P F) (A : ℕ → ℕ) (t : ℕ) where
   -- TAIL LAW: old slots bind through the tail
   pub ahead-tail : (x : ℕ) → length (F .table) < x + P → ahead (at P F) A t (x + P) ≡ ahead (at P F) A t x + F .rate
@@ -81,41 +67,3 @@ module _ (P : ℕ) (F : Curve) (good : IsCurve P F) (A : ℕ → ℕ) (t : ℕ) 
       let e : t + (x + P) - s ≡ t + x - s + P = omega arith in
       rw e (omega (arith, at-tail P F (good .period) (t + x - s) (omega arith))))
       ∙ least-add (λ s. A s + at P F (t + x - s)) (F .rate) t
-
-  -- what it ever gives it gives within n + P·q
-  pub ahead-within : (q x : ℕ) → q ≤ ahead (at P F) A t x → q ≤ ahead (at P F) A t (length (F .table) + q * P)
-  unfolding ahead
-  ahead-within q x h =
-      le-least (λ s. A s + at P F (t + (length (F .table) + q * P) - s)) t q
-      (λ s l.
-      let k : q - A s ≤ at P F (t + x - s) = omega (arith, least-le (λ r. A r + at P F (t + x - r)) t s l) in
-      let m : (q - A s) * P ≤ q * P = mul-le-mul-right P (omega arith) in
-      omega (
-        arith,
-        at-within P F good (q - A s) (t + x - s) k,
-        at-rises P F good (length (F .table) + (q - A s) * P) (t + (length (F .table) + q * P) - s) (omega arith),
-      ))
-
-  module _ (l : List ℕ) (holds : Holds P F A t l) where
-    pub following-is : (j : ℕ) → j < length (F .table) → following P F l j ≡ ahead (at P F) A t (suc (suc j))
-    unfolding following
-    following-is j k = go (leb (suc (suc j)) (length (F .table))) refl
-      where
-        go : (b : Bool) → leb (suc (suc j)) (length (F .table)) ≡ b
-            → _≡_ {A = ℕ} (elim b [ true ↦ getD l (suc j) 0 | false ↦ getD l (length (F .table) - P) 0 + F .rate ]) (ahead (at P F) A t (suc (suc j)))
-        go true e = holds .entry (suc j) (leb-true (suc (suc j)) (length (F .table)) e)
-        go false e =
-            let p : 1 ≤ P = good .period in
-            let long : P ≤ length (F .table) = good .long in
-            let n : suc (suc j) ≡ suc (length (F .table) - P) + P = omega (arith, leb-false (suc (suc j)) (length (F .table)) e) in
-            rw (n, ahead-tail (suc (length (F .table) - P)) (omega arith), holds .entry (length (F .table) - P) (omega arith))
-
-    -- THE NEXT TABLE: each number is the lesser of the one that followed it and of A and the curve
-    pub next-holds : (m : List ℕ) → length m ≡ length (F .table)
-        → ((j : ℕ) → j < length (F .table) → getD m j 0 ≡ min (following P F l j) (A (suc t) + getD (F .table) j 0))
-        → Holds P F A (suc t) m
-    next-holds m n e =
-        record {
-          size = n;
-          entry = λ j k. rw (e j k, ahead-suc (at P F) A t (suc j), following-is j k, at-table P F j k);
-        }

@@ -1,12 +1,12 @@
 -- A slot's sums over all sessions: how many packets wait, how many are sent and how many are left. What the tally adds up. Assumes nothing.
-use mathlib.Core.Path.{_≡_, refl, sym, ap, _∙_}
-use mathlib.Core.Logic.{_⊎_, inl, inr, _≢_}
+use mathlib.Core.Path.{_≡_, refl, ap}
+use mathlib.Core.Logic.{_⊎_, inl, inr}
 use mathlib.Core.Bool.{true}
 use mathlib.Core.List.{List, [], _∷_, List·Memᴰ, List·Memᴰ·head, List·Memᴰ·tail}
 use Prim.Native.Nat.{ℕ, suc, _+_, _≤_, _<_, min}
 use native.Mathlib.Omega.{arith}
 use lib.ListN.{length}
-use Rattle.curve.specs.Total.{total, total-cong, total-add, total-none, le-total, total-only}
+use Rattle.curve.specs.Total.{total, total-add, total-none, le-total, total-only}
 use Rattle.sheet.specs.Sheet.{Sheet, sessionCount}
 use Rattle.rules.specs.Count.{ind, count, count-all}
 use Rattle.rules.specs.Model.{Packet, ofSession, waitingOf, takes, packet, sends, oneSlot, past, offered}

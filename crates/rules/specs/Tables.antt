@@ -2,18 +2,18 @@
 use mathlib.Core.Path.{_≡_, refl, ap, _∙_}
 use mathlib.Core.Logic.{_⊎_, inl, inr, _↔_}
 use mathlib.Core.List.{List}
-use Prim.Native.Nat.{ℕ, zero, suc, _+_, _-_, _*_, _≤_, _<_}
+use Prim.Native.Nat.{ℕ, zero, suc, _+_, _-_, _≤_, _<_}
 use native.Mathlib.Omega.{arith}
-use lib.Dec.{T, leb→le, le→leb}
+use lib.Dec.{T}
 use lib.ListN.{length}
 use Rattle.curve.specs.Order.{le-or-lt}
 use Rattle.curve.specs.Least.{least, least-le, le-least}
 use Rattle.curve.specs.Total.{total}
 use Rattle.curve.specs.Curve.{Curve, entry, at, at-table, at-past}
 use Rattle.curve.specs.Rises.{IsCurve, at-rises}
-use Rattle.curve.specs.Delay.{Due, slot, come, find, find-delays, find-from, delay, delay-law, delay-from, due-ext, First}
+use Rattle.curve.specs.Delay.{Due, come, delay, delay-law, delay-from, due-ext}
 use Rattle.rules.specs.Deadline.{shift, deadline, deadline-from, due-sound, due-complete, come-shift, shift-from}
-use Rattle.rules.specs.Ahead.{ahead, ahead-rises, ahead-tail, ahead-within, Holds}
+use Rattle.rules.specs.Ahead.{ahead, ahead-rises, ahead-tail, Holds}
 
 -- a table that is kept for F, as a curve
 abbrev pub keptCurve : Curve → List ℕ → Curve
@@ -117,34 +117,9 @@ module _ (P : ℕ) (S : Curve) (good : IsCurve P S) (a : ℕ → ℕ) (N u : ℕ
           due-complete (delay P S) (at P S) (delay-law P S good) a N t u (omega arith)
           (λ r i. omega (arith, least-le (λ s. total a s + at P S (t - s)) u r i))
 
-  -- by a search
-  pub deadline-ahead : deadline (delay P S) a N (suc u) ≡ shift u (find (ahead (at P S) (total a) u) N (length (S .table) + N * P) 1)
-  deadline-ahead =
-      let p : 1 ≤ P = good .period in
-      let long : P ≤ length (S .table) = good .long in
-      by (find (ahead (at P S) (total a) u) N (length (S .table) + N * P) 1)
-      (find-delays (ahead (at P S) (total a) u) (λ q. length (S .table) + q * P) (ahead-rises (at P S) (total a) (at-rises P S good) u)
-      (λ q. omega arith) (ahead-within P S good (total a) u) N)
-      (find-from (ahead (at P S) (total a) u) N (length (S .table) + N * P) 1)
-
   -- by the delay look-up of the service's table
   pub deadline-table : (l : List ℕ) → Holds P S (total a) u l → deadline (delay P S) a N (suc u) ≡ shift u (delay P (keptCurve S l) N)
   deadline-table l holds = by (delay P (keptCurve S l) N) law (delay-from P (keptCurve S l) N)
     where
       law : (m : ℕ) → 1 ≤ m → T (come (delay P (keptCurve S l) N) m) ↔ (N ≤ ahead (at P S) (total a) u m)
       law m h = rw (kept-at P S good (total a) u l holds m h) at (delay-law P (keptCurve S l) (kept-curve P S good (total a) u l holds) N m h)
-
-  -- and where the least m is known
-  pub deadline-first : (m : ℕ) → First (ahead (at P S) (total a) u) N m → deadline (delay P S) a N (suc u) ≡ slot (u + m)
-  unfolding shift come
-  deadline-first m first = by (slot m) law (λ x h. omega (arith, leb→le m x h, first .from))
-    where
-      reached : (x : ℕ) → 1 ≤ x → N ≤ ahead (at P S) (total a) u x → (m ≤ x) ⊎ (x < m) → m ≤ x
-      reached x h n (inl k) = k
-      reached x h n (inr k) = absurd (omega (arith, first .before x h k))
-
-      law : (x : ℕ) → 1 ≤ x → T (come (slot m) x) ↔ (N ≤ ahead (at P S) (total a) u x)
-      law x h = (
-        λ k. omega (arith, first .reaches, ahead-rises (at P S) (total a) (at-rises P S good) u m x (leb→le m x k)),
-        λ n. le→leb m x (reached x h n (le-or-lt m x)),
-      )

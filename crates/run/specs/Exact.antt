@@ -2,12 +2,11 @@
 use mathlib.Core.Path.{_≡_, refl, sym, ap, ap₂, subst, _∙_}
 use mathlib.Core.List.{List, [], _∷_, _++_}
 use mathlib.Core.Logic.{_≢_, _⊎_, inl, inr}
-use Prim.Native.Nat.{ℕ, suc, _+_, _-_, _*_, _≤_, _<_, min}
+use Prim.Native.Nat.{ℕ, suc, _+_, _-_, _*_, _≤_, _<_}
 use native.Mathlib.Omega.{arith}
-use lib.ListN.{length, getD, set, drop, take, length-append}
+use lib.ListN.{length, getD, set, drop, length-append}
 use lib.Seq.{getD-at, take-at}
 use Rattle.curve.specs.Total.{total, total-cong}
-use Rattle.sheet.specs.Limits.{mostCapacity}
 use Rattle.sheet.specs.Sheet.{Sheet, WellMade, sessionCount}
 use Rattle.rules.specs.Model.{Past, waitingOf, over, takes, noRoom, sends, past, after}
 use Rattle.rules.specs.Base.{offersOf, after-past}
@@ -18,22 +17,18 @@ use Rattle.layout.specs.Sound.{mostSlots, Sound}
 use Rattle.guard.specs.Opened.{Opened}
 use Rattle.intake.specs.Intakes.{outcomeNumbers, shareAt, outcomesOf}
 use Rattle.intake.specs.declared.Share.{Share}
-use Rattle.send.specs.Send.{noteNumbers, sendRun, sendNotes, sendCount}
+use Rattle.send.specs.Send.{noteNumbers, sendRun}
 use Rattle.history.specs.Run.{RunReads}
 use Rattle.history.specs.After.{movingOf, runWith, runAfter, IsRun}
-use Rattle.exact.specs.Share.{shareBy}
 use Rattle.exact.specs.Written.{outcomesBy, notesOf}
 use Rattle.exact.specs.Slot as slot
 use Rattle.exact.specs.Opened.{blocks-sound, passes}
 use Rattle.run.specs.Summed.{sumsOf}
-use Rattle.run.specs.Brought.{Within, after as tallyAfter, totalsOf, broughtUp, brought-fits, brought-much}
+use Rattle.run.specs.Brought.{Within, totalsOf, brought-fits, brought-much}
 use Rattle.run.specs.Why.{capacityOf, periodOf, countOf, doneOf, Fit, Why, one-why}
-use Rattle.run.specs.Slot.{Reply, sent, refused, slotBrings, slotTotals, takenIn, Refuses, Runs, Slots}
+use Rattle.run.specs.Slot.{Reply, sent, slotTotals, takenIn, Refuses, Runs, Slots}
 use Rattle.run.specs.ByRules.{tallyBy, Done, Fitting, ByRules, FollowsRules}
 use Rattle.run.specs.declared.tally.Tally.{Tally}
-use Rattle.run.specs.declared.tally.Sums.{Sums}
-use Rattle.run.specs.declared.tally.Brought.{Brought}
-use Rattle.run.specs.declared.tally.Brought.the-variants.{Fits, TooMuch}
 
 -- the run after t slots of any offers, and the slot that follows
 module _ (sheet : Sheet) (made : WellMade sheet) (told : ℕ → List ℕ) (t : ℕ) (rest run : List ℕ) (is : run ≡ runWith sheet (past sheet told t) ++ rest) (few : t ≤ mostSlots) where

@@ -2,5 +2,4 @@
 pub mod Choice
 pub mod Send
 pub mod Sent
-pub mod Notes
-pub mod SentSound
+pub mod SentBlock

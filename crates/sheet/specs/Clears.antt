@@ -1,16 +1,15 @@
 -- What it says of the numbers that no line of a group applies, for the head, a session's fields and a table, each both ways. So what reads and what is written meet in facts and not in tests. Assumes nothing.
-use mathlib.Core.Path.{_≡_, refl, sym, _∙_}
-use mathlib.Core.Bool.{Bool, true, false, not, _||_}
-use mathlib.Core.List.{List, [], _∷_, _++_}
-use Prim.Native.Nat.{ℕ, zero, suc, _+_, _-_, _*_, _≤_, _<_}
+use mathlib.Core.Path.{_≡_, refl}
+use mathlib.Core.Bool.{not}
+use mathlib.Core.List.{List, [], _∷_}
+use Prim.Native.Nat.{ℕ, zero, suc, _+_, _-_, _≤_, _<_}
 use native.Mathlib.Omega.{arith}
 use borrow.Author.Tests.{ltb-false, le-ltb, eqb-true, eq-eqb, not-false}
 use lib.Dec.{ltb, eqb}
 use lib.ListN.{length, getD}
 use Rattle.curve.specs.Curve.{Curve, entry, at, at-entry}
-use Rattle.curve.specs.Rises.{IsCurve}
 use Rattle.sheet.specs.Limits.{version, mostCapacity, longestPeriod, mostSessions, longestTable, largestValue, largestRate, headBytes, fixedBytes, lengthBytes, mostFollowing}
-use Rattle.sheet.specs.Refusal.{Line, line, Clear, clear-nil, clear-next, next-clear, clear-append, append-clear, outside, within, not-outside, or-false}
+use Rattle.sheet.specs.Refusal.{Clear, clear-nil, clear-next, next-clear, clear-append, append-clear, within, not-outside, or-false}
 use Rattle.sheet.specs.Sheet.{WellMadeCurve}
 use Rattle.sheet.specs.Bytes.{following, versionOf, capacityOf, periodOf, countOf, serviceLength, envelopeLength, serviceRate, envelopeRate, recordBytes}
 use Rattle.sheet.specs.Reading.{headLines, valueLines, tableLines, fieldLines}

@@ -1,18 +1,17 @@
 -- Bytes that read give a sheet within all of document 01's limits, so that what stands on a sheet may take its limits for granted. Assumes nothing.
-use mathlib.Core.Path.{_≡_, refl, sym, ap, _∙_}
+use mathlib.Core.Path.{_≡_}
 use mathlib.Core.List.{List}
-use Prim.Native.Nat.{ℕ, zero, suc, _+_, _-_, _*_, _/_, _≤_, _<_, min}
+use Prim.Native.Nat.{ℕ, zero, suc, _+_, _*_, _≤_, _<_}
 use native.Mathlib.Omega.{arith}
 use lib.ListN.{length, take, drop, getD, length-take, length-drop}
 use lib.Seq.{getD-drop}
 use Rattle.words.specs.Words.{byteAt, words, length-words}
-use Rattle.curve.specs.Curve.{Curve}
-use Rattle.sheet.specs.Limits.{headBytes, fixedBytes}
+use Rattle.sheet.specs.Limits.{fixedBytes}
 use Rattle.sheet.specs.Refusal.{none, Clear, clear-append}
-use Rattle.sheet.specs.Sheet.{Session, Sheet, session, sessionCount, WellMadeCurve, WellMadeSession, WellMade}
+use Rattle.sheet.specs.Sheet.{session, sessionCount, WellMadeSession, WellMade}
 use Rattle.sheet.specs.Bytes.{countOf, periodOf, serviceLength, envelopeLength, envelopePlace, recordBytes, sessionOf, sheetOf}
 use Rattle.sheet.specs.Reading.{fieldLines, tableLines, tablesLines, sessionLines, reading}
-use Rattle.sheet.specs.Clears.{HeadReads, clear-head, FieldsRead, clear-fields, clear-curve}
+use Rattle.sheet.specs.Clears.{clear-head, FieldsRead, clear-fields, clear-curve}
 use Rattle.sheet.specs.Starts.{startOf, count-is, session-at, clear-parts, clear-at}
 
 -- each number is a byte

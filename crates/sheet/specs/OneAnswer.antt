@@ -1,8 +1,7 @@
 -- The reader's contract leaves one answer: two that both meet it for the same bytes are equal. Assumes nothing.
-use mathlib.Core.Path.{_≡_, refl, sym, ap, _∙_}
+use mathlib.Core.Path.{_≡_, sym, _∙_}
 use mathlib.Core.List.{List}
 use Prim.Native.Nat.{ℕ}
-use lib.ListN.{length, getD}
 use lib.Seq.{ext-getD}
 use Rattle.sheet.specs.Told.{read-refusal, told, Reads}
 use Rattle.sheet.specs.declared.Outcome.{Outcome}

@@ -1,13 +1,12 @@
 -- The reading of a sheet with its refusals 1 to 11 and their places, line by line as document 01 tables them and in the order that it reads. Assumes nothing.
 use mathlib.Core.Bool.{not, _||_}
 use mathlib.Core.List.{List, [], _∷_, _++_}
-use Prim.Native.Nat.{ℕ, zero, suc, _+_, _-_, _*_}
+use Prim.Native.Nat.{ℕ, zero, suc, _+_, _-_}
 use lib.Dec.{ltb, eqb}
 use lib.ListN.{length, drop}
 use Rattle.curve.specs.Curve.{Curve, at}
 use Rattle.sheet.specs.Limits.{version, mostCapacity, longestPeriod, mostSessions, longestTable, largestValue, largestRate, headBytes, fixedBytes, lengthBytes, mostFollowing}
 use Rattle.sheet.specs.Refusal.{Refusal, Line, line, first, outside}
-use Rattle.sheet.specs.Sheet.{Session}
 use Rattle.sheet.specs.Bytes.{following, versionOf, capacityOf, periodOf, countOf, serviceLength, envelopeLength, serviceRate, envelopeRate, envelopePlace, recordBytes, sessionOf}
 
 -- 1 to 6

@@ -10,7 +10,7 @@ use Rattle.sheet.specs.Refusal.{Refusal, none, refused}
 use Rattle.sheet.specs.Bytes.{capacityOf, periodOf, countOf}
 use Rattle.sheet.specs.Reading.{reading}
 use Rattle.sheet.specs.Starts.{startOf}
-use Rattle.sheet.specs.Told.{Answer, read, refusal, read-refusal, answerTo, answer, sessionsRead, placed, Reads}
+use Rattle.sheet.specs.Told.{read, refusal, read-refusal, answerTo, sessionsRead, placed, Reads}
 use Rattle.sheet.specs.Walk.{placed-start}
 use Rattle.sheet.specs.declared.Outcome.the-variants.{Read, Refused}
 

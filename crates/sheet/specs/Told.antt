@@ -1,12 +1,11 @@
 -- What the reader's answer says in document 01's numbers, what it has to say of the bytes, and that only one answer says it. Assumes nothing.
-use mathlib.Core.Path.{_≡_, refl, sym, ap, _∙_}
+use mathlib.Core.Path.{_≡_}
 use mathlib.Core.Bool.{true, false}
 use mathlib.Core.List.{List}
-use Prim.Native.Nat.{ℕ, _+_, _-_, _*_, _≤_, _<_}
+use Prim.Native.Nat.{ℕ, _-_, _*_}
 use native.Mathlib.Omega.{arith}
 use lib.Dec.{ltb}
 use lib.ListN.{length, getD, take, drop, replicate}
-use lib.Seq.{ext-getD}
 use Rattle.curve.specs.Curve.{Curve}
 use Rattle.curve.specs.Lookup.{curveOf}
 use Rattle.sheet.specs.Limits.{mostSessions, fixedBytes}

@@ -1,5 +1,5 @@
 -- What the reader keeps on its way from session to session, and what it may answer where the way ends. Assumes nothing.
-use mathlib.Core.Path.{_≡_, refl, sym, ap, _∙_}
+use mathlib.Core.Path.{_≡_, sym, ap, _∙_}
 use mathlib.Core.Logic.{_⊎_, inl, inr}
 use mathlib.Core.List.{List, [], _∷_, _++_}
 use Prim.Native.Nat.{ℕ, zero, suc, _+_, _-_, _≤_, _<_}
@@ -8,7 +8,7 @@ use native.Mathlib.Numerals.{add-one}
 use native.Mathlib.Omega.{arith}
 use borrow.Author.Tests.{lt-ltb, le-ltb}
 use lib.Dec.{ltb}
-use lib.ListN.{length, getD, set, take, drop, replicate, length-set, length-drop, length-replicate, getD-replicate, List·getD-eq-default}
+use lib.ListN.{length, getD, set, take, drop, length-set, length-drop, length-replicate, getD-replicate, List·getD-eq-default}
 use lib.Seq.{take-all, drop-drop, getD-set-same, getD-set-other}
 use Rattle.curve.specs.Order.{le-or-lt}
 use Rattle.curve.specs.declared.Packets.{Packets}

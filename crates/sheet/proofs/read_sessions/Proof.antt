@@ -1,10 +1,10 @@
 -- The reader goes from session to session as `Reached` says, and answers what is left where the way ends. Assumes nothing.
-use mathlib.Core.Path.{_≡_, refl, sym, ap, _∙_}
-use Prim.Native.Nat.{ℕ, _+_, _-_, _≤_, _<_}
+use mathlib.Core.Path.{_≡_, sym, ap, _∙_}
+use Prim.Native.Nat.{_+_, _-_, _≤_, _<_}
 use native.Mathlib.Omega.{arith}
 use borrow.Author.Needs.{needs}
 use denote.Ref.{now}
-use lib.ListN.{length, drop, length-drop}
+use lib.ListN.{drop, length-drop}
 use Rattle.sheet.specs.Limits.{longestSheet}
 use Rattle.sheet.specs.Refusal.{Clear, first}
 use Rattle.sheet.specs.Bytes.{periodOf, countOf, recordBytes}

@@ -1,5 +1,4 @@
 -- What the reader answers makes the sheet ready, or is the refusal itself. Assumes nothing.
-use mathlib.Core.Path.{_≡_, sym, ap, _∙_}
 use native.Mathlib.Omega.{arith}
 use borrow.Author.Needs.{needs}
 use denote.Ref.{now}

@@ -1,5 +1,5 @@
 -- The numbers and the tables that are written over zeros are the session's block. Assumes nothing.
-use mathlib.Core.Path.{_≡_, sym, ap, _∙_}
+use mathlib.Core.Path.{_≡_, ap, _∙_}
 use Prim.Native.Nat.{zero, _-_}
 use native.Mathlib.Omega.{arith}
 use borrow.Author.Needs.{needs}

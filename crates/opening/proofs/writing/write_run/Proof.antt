@@ -1,12 +1,11 @@
 -- The head is written over zeros, and each block after it, as `blocksOver` has them. Assumes nothing.
 use mathlib.Core.Path.{_≡_, refl, sym, ap, _∙_}
-use mathlib.Core.List.{List, _++_}
-use Prim.Native.Nat.{ℕ, zero, _+_, _-_, _*_, _≤_, _<_}
+use mathlib.Core.List.{List}
+use Prim.Native.Nat.{ℕ, zero, _+_, _-_, _≤_, _<_}
 use native.Mathlib.Omega.{arith}
 use borrow.Author.Needs.{needs}
 use denote.Ref.{now}
-use lib.ListN.{length, getD, set, drop, replicate, length-set, length-append, length-replicate, length-drop}
-use Rattle.sheet.specs.Sheet.{sessionCount}
+use lib.ListN.{length, set, drop, replicate, length-set, length-append, length-replicate, length-drop}
 use Rattle.sheet.specs.Bytes.{sheetOf}
 use Rattle.verdict.specs.Ready.{few-sessions, below-most, start-inside, rest-fits, period-is, capacity-is, sessions-are}
 use Rattle.layout.specs.Layout.{runNumbers, blockNumbers, mark, blockAt, part}

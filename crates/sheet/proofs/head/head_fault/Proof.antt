@@ -1,7 +1,6 @@
 -- Each test is a line of the table, in order: the lines before it did not apply. Assumes nothing.
-use mathlib.Core.Path.{_≡_, sym, ap, _∙_}
-use mathlib.Core.Bool.{Bool, true, false, not}
-use mathlib.Core.List.{List}
+use mathlib.Core.Path.{_≡_, sym, _∙_}
+use mathlib.Core.Bool.{Bool, not}
 use Prim.Native.Nat.{ℕ, _-_}
 use native.Mathlib.Omega.{arith}
 use borrow.Author.Needs.{needs}
@@ -9,7 +8,7 @@ use borrow.Author.Tests.{lt-ltb, le-ltb}
 use denote.Ref.{now}
 use lib.Dec.{ltb, eqb}
 use lib.ListN.{length, drop}
-use Rattle.sheet.specs.Refusal.{first, first-here, first-next, clear-nil, outside, or-left, or-right, or-neither, differs, agrees}
+use Rattle.sheet.specs.Refusal.{first, first-here, first-next, clear-nil, or-left, or-right, or-neither, differs, agrees}
 use Rattle.sheet.specs.Limits.{version, lengthBytes, mostFollowing}
 use Rattle.sheet.specs.Bytes.{following, versionOf}
 use Rattle.sheet.specs.Reading.{headLines}

@@ -1,5 +1,5 @@
 -- The fields' lines come first, and then the tables'. Assumes nothing.
-use mathlib.Core.Path.{_≡_, sym, ap, _∙_}
+use mathlib.Core.Path.{sym, ap, _∙_}
 use borrow.Author.Needs.{needs}
 use denote.Ref.{now}
 use Rattle.sheet.specs.Refusal.{Clear, first-found, first-clear}

@@ -1,16 +1,15 @@
 -- The values' lines come first, and then the join's, whose two values stand in the table. Assumes nothing.
 use mathlib.Core.Path.{_≡_, sym, ap, _∙_}
-use mathlib.Core.List.{List}
-use Prim.Native.Nat.{ℕ, _+_, _-_, _/_, _≤_, _<_}
+use Prim.Native.Nat.{_+_, _-_}
 use native.Mathlib.Omega.{arith}
 use borrow.Author.Needs.{needs}
 use borrow.Author.Tests.{lt-ltb, le-ltb}
 use denote.Ref.{now}
-use lib.ListN.{length, getD}
+use lib.ListN.{length}
 use Rattle.words.specs.Words.{words, length-words}
 use Rattle.curve.specs.Curve.{Curve, at}
 use Rattle.curve.specs.Lookup.{curveOf}
-use Rattle.sheet.specs.Refusal.{Clear, first, first-found, first-clear, first-here, first-next, clear-nil}
+use Rattle.sheet.specs.Refusal.{Clear, first-found, first-clear, first-here, first-next, clear-nil}
 use Rattle.sheet.specs.Reading.{valueLines, tableLines}
 use Rattle.sheet.specs.Values.{join-low, join-high}
 use Rattle.sheet.specs.Told.{fault}

@@ -1,13 +1,13 @@
 -- The service's lines come first, and then the envelope's; the parts that `fields` finds are the session's curves. Assumes nothing.
 use mathlib.Core.Path.{_≡_, sym, ap, _∙_}
-use Prim.Native.Nat.{ℕ, _+_}
+use Prim.Native.Nat.{_+_}
 use borrow.Author.Needs.{needs}
 use denote.Ref.{now}
 use Rattle.sheet.specs.Limits.{fixedBytes}
 use Rattle.sheet.specs.Bytes.{envelopePlace, sessionOf}
 use Rattle.sheet.specs.Refusal.{first, first-found, first-clear}
 use Rattle.sheet.specs.Reading.{tableLines, tablesLines}
-use Rattle.sheet.specs.Told.{fault, tableIn, service-in, envelope-in}
+use Rattle.sheet.specs.Told.{fault, service-in, envelope-in}
 use Rattle.sheet.proofs.sessions.tables_fault.Statement.{statement}
 use Rattle.sheet.proofs.sessions.tables_fault.Tie as tie
 
