@@ -19,6 +19,12 @@ pub total-suc : (f : ℕ → ℕ) (n : ℕ) → total f (suc n) ≡ total f n + 
 unfolding total
 total-suc f n = refl
 
+-- the first term apart
+pub total-front : (f : ℕ → ℕ) (n : ℕ) → total f (suc n) ≡ f 0 + total (λ i. f (suc i)) n
+unfolding total
+total-front f zero = omega arith
+total-front f (suc n) = omega (arith, total-front f n)
+
 pub total-cong : (f g : ℕ → ℕ) (n : ℕ) → ((i : ℕ) → i < n → f i ≡ g i) → total f n ≡ total g n
 unfolding total
 total-cong f g zero h = refl

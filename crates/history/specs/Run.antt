@@ -62,6 +62,13 @@ module _ (sheet : Sheet) (m : ℕ → Moving) where
       ap (λ z. over z (blockAt k) (new k)) (blocks-append l r k (omega arith))
       ∙ over-append (blocksOver l sheet m k) r (blockAt k) (new k) (omega (arith, new-length k, length-blocks l k))
 
+pub length-run : (sheet : Sheet) (done : ℕ) (m : ℕ → Moving) → length (runOf sheet done m) ≡ runNumbers
+unfolding runOf
+length-run sheet done m =
+    length-blocks sheet m (over (replicate runNumbers 0) 0 (headOf sheet done)) (sessionCount sheet)
+    ∙ length-over (replicate runNumbers 0) 0 (headOf sheet done)
+    ∙ length-replicate runNumbers zero
+
 -- zeros, and what stands past the run
 abbrev pub blank : List ℕ → List ℕ
 blank rest = replicate runNumbers 0 ++ rest

@@ -14,6 +14,10 @@ unfoldable pub ind : Bool → ℕ
 ind true = 1
 ind false = 0
 
+ind-false : ind false ≡ 0
+unfolding ind
+ind-false = refl
+
 pub ind-cases : (b : Bool) → (ind b ≡ 0) ⊎ (ind b ≡ 1)
 unfolding ind
 ind-cases true = inr refl
@@ -118,10 +122,46 @@ module _ {X : Type 0} where
       omega (arith, ap (λ z. ind (p z)) e, ap (λ z. ind (q z)) e, ap ind f, ap ind g, count-le p q h ys)
   count-lt p q h x l (List·Memᴰ·tail {x = y} {xs = ys} m) f g = omega (arith, h y, count-lt p q h x ys m f g)
 
+  -- where one test passes more often than another, a member passes the one and fails the other
+  pub count-differs : (p q : X → Bool) (l : List X) → count p l < count q l → (x : X) × List·Memᴰ x l × (q x ≡ true) × (p x ≡ false)
+  unfolding count
+  count-differs p q [] h = absurd (omega arith)
+  count-differs p q (x ∷ l) h = go (p x) refl (q x) refl (count-differs p q l)
+    where
+      there : ind (q x) ≤ ind (p x) → (count p l < count q l → (y : X) × List·Memᴰ y l × (q y ≡ true) × (p y ≡ false)) → (y : X) × List·Memᴰ y (x ∷ l) × (q y ≡ true) × (p y ≡ false)
+      there k ih =
+          let w = ih (omega arith) in
+          (w .0, List·Memᴰ·tail (w .1), w .2, w .3)
+
+      go : (b : Bool) → p x ≡ b → (c : Bool) → q x ≡ c → (count p l < count q l → (y : X) × List·Memᴰ y l × (q y ≡ true) × (p y ≡ false))
+          → (y : X) × List·Memᴰ y (x ∷ l) × (q y ≡ true) × (p y ≡ false)
+      go false e true f ih = (x, List·Memᴰ·head refl, f, e)
+      go true e true f ih = there (omega (arith, ap ind e, ap ind f)) ih
+      go b e false f ih = there (omega (arith, ap ind f, none)) ih
+        where
+          none : ind false ≡ 0
+          none = ind-false
+
   -- the same over a list of lists, one for each slot
   unfoldable pub countAll : (X → Bool) → List (List X) → ℕ
   countAll p [] = 0
   countAll p (l ∷ ls) = count p l + countAll p ls
+
+  pub countAll-differs : (p q : X → Bool) (ls : List (List X)) → countAll p ls < countAll q ls
+      → (l : List X) × List·Memᴰ l ls × (x : X) × List·Memᴰ x l × (q x ≡ true) × (p x ≡ false)
+  unfolding countAll
+  countAll-differs p q [] h = absurd (omega arith)
+  countAll-differs p q (l ∷ ls) h = go (le-or-lt (count q l) (count p l)) (countAll-differs p q ls)
+    where
+      go : (count q l ≤ count p l) ⊎ (count p l < count q l)
+          → (countAll p ls < countAll q ls → (k : List X) × List·Memᴰ k ls × (x : X) × List·Memᴰ x k × (q x ≡ true) × (p x ≡ false))
+          → (k : List X) × List·Memᴰ k (l ∷ ls) × (x : X) × List·Memᴰ x k × (q x ≡ true) × (p x ≡ false)
+      go (inl e) ih =
+          let w = ih (omega arith) in
+          (w .0, List·Memᴰ·tail (w .1), w .2, w .3, w .4, w .5)
+      go (inr e) ih =
+          let w = count-differs p q l e in
+          (l, List·Memᴰ·head refl, w .0, w .1, w .2, w .3)
 
   pub countAll-snoc : (p : X → Bool) (ls : List (List X)) (l : List X) → countAll p (ls ++ (l ∷ [])) ≡ countAll p ls + count p l
   unfolding countAll

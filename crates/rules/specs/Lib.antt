@@ -19,3 +19,4 @@ pub mod Ahead
 pub mod Tables
 pub mod Examples
 pub mod Sums
+pub mod Which

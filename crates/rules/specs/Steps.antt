@@ -1,6 +1,6 @@
 -- One step after the other over a list, and the same as a sequence: a history may be read either way. Assumes nothing.
-use mathlib.Core.Path.{_≡_}
-use mathlib.Core.List.{List, [], _∷_}
+use mathlib.Core.Path.{_≡_, refl}
+use mathlib.Core.List.{List, [], _∷_, _++_}
 use Prim.Native.Nat.{ℕ, suc, _+_, _≤_, _<_}
 use native.Mathlib.Nat.{add-zero}
 use native.Mathlib.Omega.{arith}
@@ -12,6 +12,12 @@ module _ {X Y : Type 0} (step : X → Y → X) where
   unfoldable pub steps : X → List Y → X
   steps x [] = x
   steps x (y ∷ h) = steps (step x y) h
+
+  -- one step more
+  pub steps-snoc : (x : X) (h : List Y) (y : Y) → steps x (h ++ (y ∷ [])) ≡ step (steps x h) y
+  unfolding steps
+  steps-snoc x [] y = refl
+  steps-snoc x (z ∷ h) y = steps-snoc (step x z) h y
 
   steps-seq : (none : Y) (q : ℕ → X) (h : List Y) (k : ℕ) → ((u : ℕ) → u < length h → q (suc (k + u)) ≡ step (q (k + u)) (getD h u none))
       → steps (q k) h ≡ q (k + length h)

@@ -1,0 +1,2 @@
+-- Demand 3, from bytes to packets.
+pub mod Calls
