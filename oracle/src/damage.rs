@@ -101,12 +101,7 @@ fn in_session(rng: &mut Rng, draft: &Draft, bytes: &mut [u8], aim: u64) {
 fn falling_join(rng: &mut Rng, draft: &Draft) -> Draft {
     let mut draft = draft.clone();
     let period = draft.period as usize;
-    let number = rng.between(0, draft.sessions.len() as u64 - 1) as usize;
-    let session = &mut draft.sessions[number];
-    let curve = match rng.one_in(2) {
-        true => &mut session.service,
-        false => &mut session.envelope,
-    };
+    let curve = draft.any_curve(rng);
     let last = curve.table.len() - 1;
     let lowest = curve.table[last + 1 - period] + curve.rate + 1;
     if period > 1 && lowest <= 500 {

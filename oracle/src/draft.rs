@@ -1,6 +1,8 @@
 //! The writer of sheets: fields to bytes. It writes what it is given, right or wrong, since
 //! sheets that must be refused are made here too.
 
+use crate::rng::Rng;
+
 #[derive(Clone, Debug, PartialEq, Eq)]
 pub struct CurveDraft {
     pub table: Vec<u16>,
@@ -62,6 +64,16 @@ impl Draft {
         }
         set_length(&mut bytes);
         bytes
+    }
+
+    /// Some curve of some session.
+    pub fn any_curve(&mut self, rng: &mut Rng) -> &mut CurveDraft {
+        let number = rng.between(0, self.sessions.len() as u64 - 1) as usize;
+        let session = &mut self.sessions[number];
+        match rng.one_in(2) {
+            true => &mut session.service,
+            false => &mut session.envelope,
+        }
     }
 
     /// The byte at which each session's record starts.

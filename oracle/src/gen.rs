@@ -204,12 +204,7 @@ fn tightened(rng: &mut Rng, mut draft: Draft) -> Draft {
 
 fn raise(rng: &mut Rng, draft: &mut Draft) {
     let period = draft.period as usize;
-    let number = rng.between(0, draft.sessions.len() as u64 - 1) as usize;
-    let session = &mut draft.sessions[number];
-    let curve = match rng.one_in(2) {
-        true => &mut session.service,
-        false => &mut session.envelope,
-    };
+    let curve = draft.any_curve(rng);
     if rng.one_in(4) {
         curve.rate = (curve.rate + 1).min(HIGHEST_RATE);
         return;

@@ -2,6 +2,8 @@
 //! envelopes, rooms and deadlines all bind in some of them.
 
 use crate::rng::Rng;
+use crate::run::{headroom, Run};
+use crate::tally::Tally;
 
 /// Stretches of idling, bursts together, floods, trickles and anything; now and then the last
 /// slot is unfinished.
@@ -22,6 +24,37 @@ pub fn random_stream(rng: &mut Rng, sessions: usize, slots: usize) -> Vec<u8> {
         stream.truncate(stream.len().saturating_sub(missing));
     }
     stream
+}
+
+/// Offers close to what the envelopes allow, slot by slot: none, some, all of the headroom or one
+/// more, with idle slots between.
+pub fn close_stream(rng: &mut Rng, mut run: Run, slots: usize) -> Vec<u8> {
+    let mut stream = Vec::new();
+    let mut tally = Tally::default();
+    for _ in 0..slots {
+        let idle = rng.one_in(3);
+        let sessions = run.sheet().sessions.iter().enumerate();
+        let offers: Vec<u8> = sessions
+            .map(|(i, session)| match idle {
+                true => 0,
+                false => close_offer(rng, headroom(session, run.taken_in(i + 1))),
+            })
+            .collect();
+        run.slot(&offers, &mut [0; 48], &mut [0; 192], &mut tally)
+            .expect("a slot of the right lengths");
+        stream.extend(offers);
+    }
+    stream
+}
+
+fn close_offer(rng: &mut Rng, headroom: u64) -> u8 {
+    let offer = match rng.between(0, 3) {
+        0 => 0,
+        1 => rng.between(0, headroom),
+        2 => headroom,
+        _ => headroom + 1,
+    };
+    offer.min(255) as u8
 }
 
 fn one_offer(rng: &mut Rng, kind: u64, slot: u64, alone: bool) -> u8 {

@@ -18,7 +18,7 @@ pub struct Waiting {
 }
 
 /// What became of one session's offers in one slot.
-#[derive(Clone, Copy, Debug, PartialEq, Eq)]
+#[derive(Clone, Copy, Debug, Default, PartialEq, Eq)]
 pub struct Outcome {
     pub taken_in: Packets,
     pub over: Packets,
@@ -133,9 +133,12 @@ impl Run {
     }
 
     /// Rules 1 and 2: offers above the headroom are over, and those left above what the room
-    /// still holds find no room.
+    /// still holds find no room. Where none is offered neither needs to be looked up.
     fn outcome(&self, i: usize, offered: u8) -> Outcome {
         let offered = offered as Packets;
+        if offered == 0 {
+            return Outcome::default();
+        }
         let session = &self.sheet.sessions[i];
         let within = offered.min(headroom(session, &self.taken[i]));
         let waiting = self
@@ -153,6 +156,9 @@ impl Run {
 
     /// Rule 3: the packets that session i takes in during the next slot, with their deadlines.
     fn new_packets(&self, i: usize, taken_in: Packets) -> Vec<Waiting> {
+        if taken_in == 0 {
+            return Vec::new();
+        }
         let before = &self.taken[i];
         let u = before.len();
         let mut a = before.clone();

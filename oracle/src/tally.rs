@@ -13,6 +13,30 @@ pub struct Tally {
 }
 
 impl Tally {
+    pub fn new(totals: [u32; 6]) -> Tally {
+        let [offered, taken_in, over, no_room, sent, waiting] = totals;
+        Tally {
+            offered,
+            taken_in,
+            over,
+            no_room,
+            sent,
+            waiting,
+        }
+    }
+
+    /// The six in the order in which they are printed.
+    pub fn totals(&self) -> [u32; 6] {
+        [
+            self.offered,
+            self.taken_in,
+            self.over,
+            self.no_room,
+            self.sent,
+            self.waiting,
+        ]
+    }
+
     /// The tally after one more slot: five totals are added to, waiting is set. None if one of
     /// the five would pass 4,294,967,295.
     pub fn after(&self, slot: &Tally) -> Option<Tally> {
@@ -29,10 +53,10 @@ impl Tally {
 
 impl fmt::Display for Tally {
     fn fmt(&self, to: &mut fmt::Formatter) -> fmt::Result {
-        write!(
-            to,
-            "total {} {} {} {} {} {}",
-            self.offered, self.taken_in, self.over, self.no_room, self.sent, self.waiting
-        )
+        write!(to, "total")?;
+        for total in self.totals() {
+            write!(to, " {total}")?;
+        }
+        Ok(())
     }
 }

@@ -186,18 +186,6 @@ fn room_of_two() -> Run {
     Run::open(&draft.bytes()).expect("passes")
 }
 
-fn totals(six: [u32; 6]) -> Tally {
-    let [offered, taken_in, over, no_room, sent, waiting] = six;
-    Tally {
-        offered,
-        taken_in,
-        over,
-        no_room,
-        sent,
-        waiting,
-    }
-}
-
 #[test]
 fn each_added_total_is_tested_and_waiting_is_set() {
     let max = u32::MAX;
@@ -206,13 +194,13 @@ fn each_added_total_is_tested_and_waiting_is_set() {
         let mut one_more = highest;
         one_more[place] += 1;
         let mut run = room_of_two();
-        let number = refused_slot(&mut run, &[5], (3, 3), totals(one_more));
+        let number = refused_slot(&mut run, &[5], (3, 3), Tally::new(one_more));
         assert_eq!(number, 18);
     }
     let mut run = room_of_two();
-    let mut tally = totals(highest);
+    let mut tally = Tally::new(highest);
     one_slot(&mut run, &[5], &mut tally);
-    assert_eq!(tally, totals([max, max, max, max, max, 1]));
+    assert_eq!(tally, Tally::new([max, max, max, max, max, 1]));
 }
 
 #[test]

@@ -1,2 +1,3 @@
 -- Demand 3, from bytes to packets.
 pub mod Calls
+pub mod Numbers

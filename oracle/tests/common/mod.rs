@@ -1,7 +1,8 @@
 //! The sheets of the numbered examples and small functions shared by the tests.
-#![allow(dead_code)]
+#![allow(dead_code, unused_imports)]
 
-use oracle::draft::{Draft, SessionDraft};
+use oracle::draft::SessionDraft;
+pub use oracle::examples::*;
 use oracle::run::{Run, MOST_SLOTS};
 use oracle::stream::slotrun;
 use oracle::tally::Tally;
@@ -9,57 +10,6 @@ use oracle::tally::Tally;
 pub fn one(service: (&[u16], u16), envelope: (&[u16], u16), room: u16) -> SessionDraft {
     SessionDraft::new(service, envelope, room)
 }
-
-pub fn k1() -> Draft {
-    Draft::new(1, 1, &[one((&[1], 1), (&[3], 1), 4)])
-}
-
-pub fn k3() -> Draft {
-    let burst: (&[u16], u16) = (&[2, 2], 1);
-    Draft::new(
-        1,
-        2,
-        &[one((&[0, 1], 1), burst, 4), one((&[1, 1], 1), burst, 4)],
-    )
-}
-
-pub fn k4() -> Draft {
-    let mut draft = k3();
-    draft.sessions[0].service.table = vec![1, 1];
-    draft
-}
-
-pub fn k5() -> Draft {
-    let mut draft = k4();
-    draft.sessions[1].envelope.table = vec![0, 0];
-    draft.sessions[1].envelope.rate = 0;
-    draft
-}
-
-pub fn k6() -> Draft {
-    let first = one((&[1], 1), (&[5], 0), 4);
-    Draft::new(1, 1, &[first, one((&[0, 0, 0, 0, 1], 1), (&[1], 1), 4)])
-}
-
-pub fn k7() -> Draft {
-    let mut draft = k6();
-    draft.sessions[1].service.table.insert(0, 0);
-    draft
-}
-
-pub fn k8() -> Draft {
-    let burst: (&[u16], u16) = (&[500], 256);
-    Draft::new(
-        1,
-        1,
-        &[one((&[1], 1), burst, 4), one((&[0; 64], 1), burst, 4)],
-    )
-}
-
-pub const K12: [u8; 38] = [
-    0, 0, 0, 0x22, 1, 1, 2, 2, 2, 2, 3, 0, 1, 0, 1, 0, 0, 0, 1, 0, 2, 0, 2, 2, 2, 3, 0, 1, 0, 1, 0,
-    1, 0, 1, 0, 2, 0, 2,
-];
 
 /// What `slotrun` prints for these bytes.
 pub fn printed(bytes: &[u8]) -> String {

@@ -22,8 +22,8 @@ mul-figure c = search needs
 array-copy-out-figure : tie.Need-array-copy-out-figure Inv-loop μ-loop
 array-copy-out-figure c = search needs
 
-print-next-requires : tie.Need-print-next-requires Inv-loop μ-loop
-print-next-requires c κs = search needs
+next-requires : tie.Need-next-requires Inv-loop μ-loop
+next-requires c κs = search needs
 
 add-i : tie.Need-add-i Inv-loop μ-loop
 add-i c = search needs
@@ -47,7 +47,7 @@ print-figures-spec =
     returns
     mul-figure
     array-copy-out-figure
-    print-next-requires
+    next-requires
     add-i
     loop-less
     loop-again

@@ -1,23 +1,23 @@
--- That a line's bytes lie within the room is what `sheet_bytes` ensures. Assumes nothing.
+-- That a line's bytes lie within the room is what `line_bytes` ensures. Assumes nothing.
 use mathlib.Core.Path.{subst}
 use borrow.Author.Needs.{needs}
 use Rattle.io.specs.Counts.{Counts}
-use Rattle.vectors.specs.Lines.{Fits}
+use Rattle.text.specs.Lines.{Fits}
 use Rattle.vectors.proofs.run_sheet.Statement.{statement}
 use Rattle.vectors.proofs.run_sheet.Tie as tie
 
-slice-aggregate-sheet-bytes : tie.Need-slice-aggregate-sheet-bytes
-slice-aggregate-sheet-bytes c = search needs
+slice-aggregate-line-bytes : tie.Need-slice-aggregate-line-bytes
+slice-aggregate-line-bytes c = search needs
 
-sheet-bytes-requires : tie.Need-sheet-bytes-requires
-sheet-bytes-requires c κs = search needs
+line-bytes-requires : tie.Need-line-bytes-requires
+line-bytes-requires c κs = search needs
 
 enum-known-n : tie.Need-enum-known-n
 enum-known-n c = search needs
 
 -- the line's bytes stand at the start of the room
-fits : (c : tie.After-known-told) → Counts (c .before .n .given .0 .0) (c .before .before .before .before .sheet-bytes .last .1 .0)
-fits c = subst (Fits (c .before .before .before .before .sheet-bytes .last .1 .0)) (c .before .n .given .1) (c .before .before .before .before .sheet-bytes .ensures)
+fits : (c : tie.After-known-told) → Counts (c .before .n .given .0 .0) (c .before .before .before .before .line-bytes .last .1 .0)
+fits c = subst (Fits (c .before .before .before .before .line-bytes .last .1 .0)) (c .before .n .given .1) (c .before .before .before .before .line-bytes .ensures)
 
 array-share-prefix-bytes : tie.Need-array-share-prefix-bytes
 array-share-prefix-bytes c = fits c .0
@@ -31,11 +31,8 @@ answer-requires c κs = search needs
 enum-told : tie.Need-enum-told
 enum-told c = search needs
 
-slice-aggregate-write-all : tie.Need-slice-aggregate-write-all
-slice-aggregate-write-all c = search needs
-
-write-all-requires : tie.Need-write-all-requires
-write-all-requires c κs = search needs
+unclear-requires : tie.Need-unclear-requires
+unclear-requires c κs = search needs
 
 returns : tie.Need-returns
 returns c = search needs
@@ -47,14 +44,13 @@ pub run-sheet-spec : {M : Type 1} → statement M
 run-sheet-spec =
     tie.close
     (tie.spec
-    slice-aggregate-sheet-bytes
-    sheet-bytes-requires
+    slice-aggregate-line-bytes
+    line-bytes-requires
     enum-known-n
     array-share-prefix-bytes
     slice-aggregate-answer
     answer-requires
     enum-told
-    slice-aggregate-write-all
-    write-all-requires
+    unclear-requires
     returns
     returns-2)

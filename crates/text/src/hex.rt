@@ -1,9 +1,16 @@
-// A sheet's bytes written as text: words of hex digit pairs between spaces, a word or a bracket repeated, or `-` for no bytes.
+// Bytes written as text, in words between spaces:
+//   01F4        the bytes 01 and F4
+//   01F4*64     the word 64 times, 128 bytes
+//   (0000 01F4*64)*16     what stands between the brackets 16 times; brackets do not nest
+//   -           no bytes at all
 ghost use Prim.Native.Nat.{_+_, _<_, _≤_};
 ghost use lib.ListN.{length};
-ghost use Rattle.vectors.specs.Lines.{Ordered, Further, Fits};
+ghost use Rattle.text.specs.Lines.{Ordered, Further, Fits};
+use crate::at_most;
+use crate::number::digit;
+use crate::number::number_at;
 
-// A count of this much or more takes no further digit: it fills the room already.
+// A word is repeated no more often than this, which fills any program's room already.
 const MANY: usize = 10000;
 
 // Two hex digits, or not.
@@ -12,13 +19,7 @@ pub enum Pair {
     Other,
 }
 
-// A number of times, and where it ends in its line.
-pub struct Times {
-    count: usize,
-    end: usize,
-}
-
-// How far a line is read: the place in the line, the sheet's bytes so far, and where among them the word and the bracket began that a
+// How far a line is read: the place in the line, the line's bytes so far, and where among them the word and the bracket began that a
 // repeat would take again.
 pub struct Progress {
     at: usize,
@@ -39,18 +40,6 @@ pub enum Line {
     Unclear,
 }
 
-// The value of a hex digit, or 16.
-fn digit(b: u8) -> u8
-    ensures { λ r. ⌜ r ≤ 16 ⌝ }
-{
-    match b {
-        b'0'..=b'9' => b - b'0',
-        b'a'..=b'f' => b - b'a' + 10,
-        b'A'..=b'F' => b - b'A' + 10,
-        _ => 16,
-    }
-}
-
 fn byte_of(first: u8, second: u8) -> Pair {
     let high = digit(first);
     let low = digit(second);
@@ -61,26 +50,6 @@ fn byte_of(first: u8, second: u8) -> Pair {
         return Pair::Other;
     }
     Pair::Byte(16 * high + low)
-}
-
-// The decimal number at `from`; 0 where there is none.
-fn count_at(line: &[u8], from: usize) -> Times
-    requires { ⌜ from ≤ length (now line) ⌝ }
-    ensures { λ r. ⌜ (from ≤ r .end) × (r .end ≤ length (now (line .entry))) ⌝ }
-{
-    let mut count: usize = 0;
-    let mut end = from;
-    while end < line.len() {
-        let d = digit(line[end]);
-        if d > 9 {
-            break;
-        }
-        if count < MANY {
-            count = 10 * count + d as usize;
-        }
-        end += 1;
-    }
-    Times { count, end }
 }
 
 // Writes the bytes from `from` to `to` once more, at `written`.
@@ -157,9 +126,9 @@ fn advance_repeat(line: &[u8], bytes: &mut [u8], p: Progress) -> Step
     let written = p.written;
     let word = p.word;
     let bracket = p.bracket;
-    let t = count_at(line, at + 1);
-    let count = t.count;
-    let end = t.end;
+    let times = number_at(line, at + 1);
+    let count = at_most(times.value, MANY);
+    let end = times.end;
     let repeated = repeat(bytes, word, written, count);
     Step::On(Progress {
         at: end,
@@ -202,8 +171,8 @@ fn advance(line: &[u8], bytes: &mut [u8], p: Progress) -> Step
     }
 }
 
-// Writes a line's sheet into `bytes`.
-pub fn sheet_bytes(line: &[u8], bytes: &mut [u8]) -> Line
+// Writes a line's bytes into `bytes`; those past its end are left out.
+pub fn line_bytes(line: &[u8], bytes: &mut [u8]) -> Line
     ensures { λ r. ⌜ Fits (now (bytes .exit)) r ⌝ }
 {
     let mut p = Progress {

@@ -1,15 +1,17 @@
 -- What is left of the text falls. Assumes nothing.
 use Prim.Native.Nat.{_-_, _≤_}
+use native.Mathlib.Omega.{arith}
 use borrow.Author.Needs.{needs}
 use lib.ListN.{length}
-use Rattle.vectors.proofs.line_end.Statement.{statement}
-use Rattle.vectors.proofs.line_end.Tie as tie
+use Rattle.io.proofs.Counting.{counts}
+use Rattle.text.proofs.find.Statement.{statement}
+use Rattle.text.proofs.find.Tie as tie
 
 abbrev Inv-loop : tie.InvT-loop
-Inv-loop text from end₀ end = (from ≤ end) × (end ≤ length text)
+Inv-loop text from mark end₀ end = (from ≤ end) × (end ≤ length text)
 
 abbrev μ-loop : tie.MeasureT-loop
-μ-loop text from end₀ end = length text - end
+μ-loop text from mark end₀ end = length text - end
 
 loop-holds : tie.Need-loop-holds Inv-loop μ-loop
 loop-holds c = search needs
@@ -18,7 +20,7 @@ shared-slice-read-if1 : tie.Need-shared-slice-read-if1 Inv-loop μ-loop
 shared-slice-read-if1 c = search needs
 
 returns : tie.Need-returns Inv-loop μ-loop
-returns c = search needs
+returns c = (search needs, counts _ _ (omega arith))
 
 add-end : tie.Need-add-end Inv-loop μ-loop
 add-end c = search needs
@@ -30,10 +32,10 @@ loop-again : tie.Need-loop-again Inv-loop μ-loop
 loop-again c = search needs
 
 returns-2 : tie.Need-returns-2 Inv-loop μ-loop
-returns-2 c = search needs
+returns-2 c = (search needs, counts _ _ (omega arith))
 
-pub line-end-spec : {M : Type 1} → statement M
-line-end-spec =
+pub find-spec : {M : Type 1} → statement M
+find-spec =
     tie.close
     (tie.spec
     Inv-loop

@@ -1,22 +1,25 @@
--- What is left of the count falls, and the room is never passed. Assumes nothing.
+-- What is left to fill falls, and the slice keeps its length. Assumes nothing.
 use mathlib.Core.Path.{_≡_}
-use Prim.Native.Nat.{_-_, _≤_}
-use borrow.Author.Needs.{needs}
+use Prim.Native.Nat.{_-_}
 use lib.ListN.{length}
-use Rattle.vectors.proofs.text.repeat.Statement.{statement}
-use Rattle.vectors.proofs.text.repeat.Tie as tie
+use borrow.Author.Needs.{needs}
+use Rattle.slots.proofs.slices.fill.Statement.{statement}
+use Rattle.slots.proofs.slices.fill.Tie as tie
 
 abbrev Inv-loop : tie.InvT-loop
-Inv-loop bytes₀ from to count end₀ i₀ bytes end i = (from ≤ end) × (end ≤ length bytes₀) × (length bytes ≡ length bytes₀)
+Inv-loop numbers₀ value i₀ numbers i = length numbers ≡ length numbers₀
 
 abbrev μ-loop : tie.MeasureT-loop
-μ-loop bytes₀ from to count end₀ i₀ bytes end i = count - i
+μ-loop numbers₀ value i₀ numbers i = length numbers₀ - i
 
 loop-holds : tie.Need-loop-holds Inv-loop μ-loop
 loop-holds c = search needs
 
-again-requires : tie.Need-again-requires Inv-loop μ-loop
-again-requires c κs = search needs
+mul-numbers : tie.Need-mul-numbers Inv-loop μ-loop
+mul-numbers c = search needs
+
+slice-write-numbers : tie.Need-slice-write-numbers Inv-loop μ-loop
+slice-write-numbers c = search needs
 
 add-i : tie.Need-add-i Inv-loop μ-loop
 add-i c = search needs
@@ -33,14 +36,15 @@ same-length c = search needs
 returns : tie.Need-returns Inv-loop μ-loop
 returns c = search needs
 
-pub repeat-spec : {M : Type 1} → statement M
-repeat-spec =
+pub fill-spec : {M : Type 1} → statement M
+fill-spec =
     tie.close
     (tie.spec
     Inv-loop
     μ-loop
     loop-holds
-    again-requires
+    mul-numbers
+    slice-write-numbers
     add-i
     loop-less
     loop-again

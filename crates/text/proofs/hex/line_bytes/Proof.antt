@@ -4,11 +4,11 @@ use Prim.Native.Nat.{_-_, _≤_}
 use native.Mathlib.Omega.{arith}
 use borrow.Author.Needs.{needs}
 use lib.ListN.{length}
-use Rattle.vectors.specs.Lines.{Ordered, Further}
-use Rattle.vectors.specs.declared.text.Step.the-variants.{On}
+use Rattle.text.specs.Lines.{Ordered, Further}
+use Rattle.text.specs.declared.hex.Step.the-variants.{On}
 use Rattle.io.proofs.Counting.{counts}
-use Rattle.vectors.proofs.text.sheet_bytes.Statement.{statement}
-use Rattle.vectors.proofs.text.sheet_bytes.Tie as tie
+use Rattle.text.proofs.hex.line_bytes.Statement.{statement}
+use Rattle.text.proofs.hex.line_bytes.Tie as tie
 
 abbrev Inv-loop : tie.InvT-loop
 Inv-loop line bytes₀ p₀ bytes p = (p .at ≤ length line) × Ordered (length bytes₀) p × (length bytes ≡ length bytes₀)
@@ -58,8 +58,8 @@ same-length-2 c = search needs
 returns-2 : tie.Need-returns-2 Inv-loop μ-loop
 returns-2 c = counts _ _ (omega arith)
 
-pub sheet-bytes-spec : {M : Type 1} → statement M
-sheet-bytes-spec =
+pub line-bytes-spec : {M : Type 1} → statement M
+line-bytes-spec =
     tie.close
     (tie.spec
     Inv-loop

@@ -1,12 +1,12 @@
--- What the functions that read a line ask of each other: that places stay within the line and within the room for the sheet's bytes. Assumes nothing.
+-- What the functions that read a line ask of each other: that places stay within the line and within the room for the line's bytes. Assumes nothing.
 use mathlib.Core.List.{List}
 use Prim.Native.Nat.{ℕ, _≤_, _<_}
 use Rattle.io.specs.Counts.{Counts}
-use Rattle.vectors.specs.declared.text.Progress.{Progress}
-use Rattle.vectors.specs.declared.text.Step.{Step}
-use Rattle.vectors.specs.declared.text.Step.the-variants.{On, Unclear}
-use Rattle.vectors.specs.declared.text.Line.{Line}
-use Rattle.vectors.specs.declared.text.Line.the-variants as line
+use Rattle.text.specs.declared.hex.Progress.{Progress}
+use Rattle.text.specs.declared.hex.Step.{Step}
+use Rattle.text.specs.declared.hex.Step.the-variants.{On, Unclear}
+use Rattle.text.specs.declared.hex.Line.{Line}
+use Rattle.text.specs.declared.hex.Line.the-variants as line
 
 -- the bracket began no later than the word, and the word within the bytes written, for which there is room
 pub record Ordered (most : ℕ) (p : Progress) : Type 0 where

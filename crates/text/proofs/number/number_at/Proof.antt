@@ -2,14 +2,14 @@
 use Prim.Native.Nat.{_-_, _≤_}
 use borrow.Author.Needs.{needs}
 use lib.ListN.{length}
-use Rattle.vectors.proofs.text.count_at.Statement.{statement}
-use Rattle.vectors.proofs.text.count_at.Tie as tie
+use Rattle.text.proofs.number.number_at.Statement.{statement}
+use Rattle.text.proofs.number.number_at.Tie as tie
 
 abbrev Inv-loop : tie.InvT-loop
-Inv-loop line from count₀ end₀ count end = (from ≤ end) × (end ≤ length line)
+Inv-loop line from value₀ end₀ value end = (from ≤ end) × (end ≤ length line)
 
 abbrev μ-loop : tie.MeasureT-loop
-μ-loop line from count₀ end₀ count end = length line - end
+μ-loop line from value₀ end₀ value end = length line - end
 
 loop-holds : tie.Need-loop-holds Inv-loop μ-loop
 loop-holds c = search needs
@@ -20,14 +20,14 @@ shared-slice-read-digit c = search needs
 digit-requires : tie.Need-digit-requires Inv-loop μ-loop
 digit-requires c κs = search needs
 
-mul-count : tie.Need-mul-count Inv-loop μ-loop
-mul-count c = search needs
+mul-value : tie.Need-mul-value Inv-loop μ-loop
+mul-value c = search needs
 
-cast-count : tie.Need-cast-count Inv-loop μ-loop
-cast-count c = search needs
+cast-value : tie.Need-cast-value Inv-loop μ-loop
+cast-value c = search needs
 
-add-count : tie.Need-add-count Inv-loop μ-loop
-add-count c = search needs
+add-value : tie.Need-add-value Inv-loop μ-loop
+add-value c = search needs
 
 add-end : tie.Need-add-end Inv-loop μ-loop
 add-end c = search needs
@@ -44,8 +44,8 @@ returns c = search needs
 returns-2 : tie.Need-returns-2 Inv-loop μ-loop
 returns-2 c = search needs
 
-pub count-at-spec : {M : Type 1} → statement M
-count-at-spec =
+pub number-at-spec : {M : Type 1} → statement M
+number-at-spec =
     tie.close
     (tie.spec
     Inv-loop
@@ -53,9 +53,9 @@ count-at-spec =
     loop-holds
     shared-slice-read-digit
     digit-requires
-    mul-count
-    cast-count
-    add-count
+    mul-value
+    cast-value
+    add-value
     add-end
     loop-less
     loop-again

@@ -3,8 +3,8 @@ use mathlib.Core.Path.{_≡_}
 use Prim.Native.Nat.{_-_, _≤_}
 use borrow.Author.Needs.{needs}
 use lib.ListN.{length}
-use Rattle.vectors.proofs.text.again.Statement.{statement}
-use Rattle.vectors.proofs.text.again.Tie as tie
+use Rattle.text.proofs.hex.again.Statement.{statement}
+use Rattle.text.proofs.hex.again.Tie as tie
 
 abbrev Inv-loop : tie.InvT-loop
 Inv-loop bytes₀ from to written i₀ end₀ bytes i end = (i ≤ to) × (written ≤ end) × (end ≤ length bytes₀) × (length bytes ≡ length bytes₀)
