@@ -40,7 +40,7 @@ use Rattle.exact.specs.Written.{outcomeOf, outcomesBy, notesOf, length-o
 use Rattle.exact.specs.Waiting.{slot-count, slot-sent, slot-notes}
 
 -- a packet's deadline is a slot: its session's service has a rate
-due-slot : (P : ℕ) (s : Session) → WellMadeSession P s → (a : ℕ → ℕ) (N u : ℕ) → 1 ≤ a u
+pub due-slot : (P : ℕ) (s : Session) → WellMadeSession P s → (a : ℕ → ℕ) (N u : ℕ) → 1 ≤ a u
     → deadline (delay P (s .service)) a N (suc u) ≡ slot (slotsOf (deadline (delay P (s .service)) a N (suc u)))
 unfolding slotsOf shift
 due-slot P s made a N u some =

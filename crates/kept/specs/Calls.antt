@@ -5,7 +5,7 @@ use Prim.Native.Nat.{ℕ, zero, suc, _+_, _*_, _≤_, _<_}
 use lib.Dec.{eqb}
 use lib.ListN.{length, getD}
 use Rattle.curve.specs.Total.{total}
-use Rattle.sheet.specs.Sheet.{Sheet, sessionCount}
+use Rattle.sheet.specs.Sheet.{sessionCount}
 use Rattle.sheet.specs.Bytes.{sheetOf}
 use Rattle.sheet.specs.Makes.{AllBytes}
 use Rattle.rules.specs.Count.{ind}
