@@ -1,8 +1,7 @@
 -- THE THEOREM OF DEMAND 3: from bytes that the verdict passes, through the contracts of `open` and `slot` alone, to the packets that the slots noted. Assumes nothing.
-use mathlib.Core.Path.{_≡_, refl, sym, ap, ap₂, subst, _∙_}
+use mathlib.Core.Path.{_≡_, refl, sym, ap, subst, _∙_}
 use mathlib.Core.Logic.{_⊎_, inl, inr}
-use mathlib.Core.Bool.{true, false}
-use mathlib.Core.List.{List, _++_, List·Memᴰ}
+use mathlib.Core.List.{List, _++_}
 use Prim.Native.Nat.{ℕ, zero, suc, _+_, _-_, _*_, _≤_, _<_}
 use native.Mathlib.Omega.{arith}
 use lib.Dec.{T, eqb}
@@ -10,12 +9,12 @@ use lib.ListN.{length, getD, drop}
 use Rattle.curve.specs.Order.{le-or-lt}
 use Rattle.curve.specs.Least.{least-cong}
 use Rattle.curve.specs.Total.{total, total-cong}
-use Rattle.curve.specs.Delay.{Due, slot, slotsOf, come}
-use Rattle.sheet.specs.Sheet.{Sheet, WellMade, session, sessionCount}
+use Rattle.curve.specs.Delay.{slot, come}
+use Rattle.sheet.specs.Sheet.{Sheet, session, sessionCount}
 use Rattle.sheet.specs.Bytes.{sheetOf}
 use Rattle.rules.specs.Count.{ind, count, countAll, countAll-snoc}
 use Rattle.rules.specs.Deadline.{deadline, deadline-cong}
-use Rattle.rules.specs.Model.{Packet, Past, envelopeOf, serviceOf, delayOf, ofSession, waitingOf, over, takes, noRoom, packet, sends, oneSlot, past, after, promised}
+use Rattle.rules.specs.Model.{Packet, Past, serviceOf, delayOf, ofSession, waitingOf, over, takes, noRoom, packet, sends, oneSlot, past, promised}
 use Rattle.rules.specs.Curves.{Curves, WithinCapacity, made-curves, passes-within}
 use Rattle.rules.specs.Facts.{got, newPacket}
 use Rattle.rules.specs.Intake.{taken-split}
@@ -26,10 +25,10 @@ use Rattle.intake.specs.Intakes.{outcomeNumbers}
 use Rattle.send.specs.Send.{noteNumbers, sessionAt, packetAt, deadlineAt}
 use Rattle.exact.specs.Written.{outcomesBy, notesOf}
 use Rattle.exact.specs.Slot.{due-slot}
-use Rattle.run.specs.Slot.{Reply, sent}
-use Rattle.kept.specs.Calls.{Calls, Lent, answered, offeredIn, tookIn, overIn, noRoomIn, sentCount, noteSession, sentIn}
-use Rattle.kept.specs.Numbers.{outcome-at, NotedAt, noted-at, noted-count}
-use Rattle.kept.specs.Promise.{taken, went, dueIn, WasSent, Conforms, Kept, Answered}
+use Rattle.run.specs.Slot.{sent}
+use Rattle.kept.specs.Calls.{Calls, Lent, answered, tookIn, overIn, noRoomIn, sentCount, noteSession, sentIn}
+use Rattle.kept.specs.Numbers.{outcome-at, noted-at, noted-count}
+use Rattle.kept.specs.Promise.{taken, went, dueIn, WasSent, Kept, Answered}
 use Rattle.kept.specs.Runs.{verdict, made, first-past, done}
 
 module _ (bytes : List ℕ) (n : ℕ) (c : Calls bytes n) (lent : Lent bytes n c) (most : n ≤ mostSlots) where

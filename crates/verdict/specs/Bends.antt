@@ -49,12 +49,17 @@ conv-bends P b S p lb lS t h = go (conv-best (at P b) (at P S) (t + P))
             let less = conv-le (at P b) (at P S) t s y (omega (arith, e)) in
             omega (arith, here, at-tail P S p u (omega (arith, e)), more, less, m .value)
 
--- a load of m sessions, past 128: the two tables of a session have at most 64 values each
-pub load-bends : (P : ℕ) (b S : ℕ → Curve) (m : ℕ) → 1 ≤ P → Tables P b S m → Bends (load P b S m) P 128
-load-bends P b S m p g = up-to m (omega arith)
-  where
-    up-to : (i : ℕ) → i ≤ m → Bends (load P b S i) P 128
-    up-to zero l t h = omega (arith, load-none P b S t, load-none P b S (t + P), load-none P b S (t + P + P))
-    up-to (suc i) l t h =
-        let one = conv-bends P (b i) (S i) p (g .envelope-long i l) (g .service-long i l) t (omega (arith, g .envelope-short i l, g .service-short i l)) in
-        omega (arith, one, up-to i (omega arith) t h, load-more P b S i t, load-more P b S i (t + P), load-more P b S i (t + P + P))
+module _ (P : ℕ) (b S : ℕ → Curve) (m : ℕ) (p : 1 ≤ P) (g : Tables P b S m) where
+  -- a load of m sessions, past a place that no two tables of a session reach together
+  pub load-bends-past : (T0 : ℕ) → ((i : ℕ) → i < m → length (b i .table) + length (S i .table) ≤ T0) → Bends (load P b S m) P T0
+  load-bends-past T0 both = up-to m (omega arith)
+    where
+      up-to : (i : ℕ) → i ≤ m → Bends (load P b S i) P T0
+      up-to zero l t h = omega (arith, load-none P b S t, load-none P b S (t + P), load-none P b S (t + P + P))
+      up-to (suc i) l t h =
+          let one = conv-bends P (b i) (S i) p (g .envelope-long i l) (g .service-long i l) t (omega (arith, both i l)) in
+          omega (arith, one, up-to i (omega arith) t h, load-more P b S i t, load-more P b S i (t + P), load-more P b S i (t + P + P))
+
+  -- past 128 in any sheet: the two tables of a session have at most 64 values each
+  pub load-bends : Bends (load P b S m) P 128
+  load-bends = load-bends-past 128 (λ i l. omega (arith, g .envelope-short i l, g .service-short i l))
