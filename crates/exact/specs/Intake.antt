@@ -113,7 +113,7 @@ module _ (P : ℕ) (s : Session) (made : WellMadeSession P s) (a : ℕ → ℕ) 
         sym (due-new D a N t l
         ∙ ap slotsOf (deadline-table P S (made .service .curve) a N t some (aheadTable P S (total a) t) (table-holds P S (total a) t))
         ∙ ap (λ (F : Curve). slotsOf (shift t (delay P F N))) (sym is)
-        ∙ shifted t (delay P (serviceAhead before) N) (delay-slot P (serviceAhead before) (ok .service-ahead) (ok .promises) N))
+        ∙ shifted t (delay P (serviceAhead before) N) (delay-slot P (serviceAhead before) (ok .service-ahead) (ok .numbers .promises) N))
 
     -- the ring after the slot
     ring-next : (k : ℕ) → k ≡ a t → (j : ℕ) → j < ring → getD (tookIn before P t k) (deadlinesAt + j) 0 ≡ getD (ringOf D a (suc t)) j 0
@@ -183,7 +183,7 @@ module _ (P : ℕ) (s : Session) (made : WellMadeSession P s) (a : ℕ → ℕ) 
       envelope-next =
           let fit = fitting P s made a sent t in
           table-next envelopeAheadAt (getD before envelopeLengthAt 0) (s .envelope) (made .envelope .curve) (before-reads .fields envelopeLengthAt (omega arith)) (before-reads .envelope-aheads)
-          (λ j h l. tookIn-kept before P t ok k (envelopeAheadAt + j) (omega arith) (omega arith) (inr (omega (arith, ok .service-short))) (inr (omega arith)))
+          (λ j h l. tookIn-kept before P t ok k (envelopeAheadAt + j) (omega arith) (omega arith) (inr (omega (arith, ok .numbers .service-short))) (inr (omega arith)))
           (new-envelope before P t ok k ∙ step-is _ (s .envelope) _ _ (envelope-ahead-is s _ before fit before-reads) (envelope-is s _ before fit before-reads))
 
       -- INTAKE IS EXACT

@@ -1,14 +1,14 @@
 -- What the parts of the test of refusal 14 look at, number by number, and that together they are a sound block, both ways. Assumes nothing.
 use mathlib.Core.Path.{_≡_, refl, ap}
 use mathlib.Core.List.{List}
-use Prim.Native.Nat.{ℕ, zero, suc, _+_, _-_, _*_, _≤_, _<_}
+use Prim.Native.Nat.{ℕ, zero, suc, _+_, _-_, _≤_, _<_}
 use native.Mathlib.Omega.{arith}
 use lib.ListN.{length, getD}
 use Rattle.curve.specs.Curve.{Curve, entry}
 use Rattle.curve.specs.Rises.{IsCurve}
-use Rattle.sheet.specs.Limits.{mostCapacity, longestPeriod, longestTable, largestValue, largestRate, largestRoom}
-use Rattle.layout.specs.Layout.{blockNumbers, serviceLengthAt, envelopeLengthAt, roomAt, serviceRateAt, envelopeRateAt, takenAt, sentAt, serviceAt, envelopeAt, serviceAheadAt, envelopeAheadAt, part}
-use Rattle.layout.specs.Sound.{mostAhead, Below, Sound}
+use Rattle.sheet.specs.Limits.{longestPeriod, longestTable, largestValue}
+use Rattle.layout.specs.Layout.{blockNumbers, serviceLengthAt, envelopeLengthAt, serviceRateAt, envelopeRateAt, serviceAt, envelopeAt, serviceAheadAt, envelopeAheadAt, part}
+use Rattle.layout.specs.Sound.{mostAhead, Below, Numbers, Sound}
 use Rattle.layout.specs.Part.{part-length, part-at}
 
 -- the n numbers from a on are at most v
@@ -20,21 +20,6 @@ pub record Climbs (b : List ℕ) (a n P rate v : ℕ) : Type 0 where
   pub steps : (i : ℕ) → i + 1 < n → getD b (a + i) 0 ≤ getD b (a + (i + 1)) 0
   pub join : getD b (a + (n - 1)) 0 ≤ getD b (a + (n - P)) 0 + rate
   pub last : getD b (a + (n - 1)) 0 ≤ v
-
--- a block's plain numbers
-pub record Numbers (b : List ℕ) (P done : ℕ) : Type 0 where
-  pub service-long : P ≤ getD b serviceLengthAt 0
-  pub service-short : getD b serviceLengthAt 0 ≤ longestTable
-  pub envelope-long : P ≤ getD b envelopeLengthAt 0
-  pub envelope-short : getD b envelopeLengthAt 0 ≤ longestTable
-  pub room : getD b roomAt 0 ≤ largestRoom
-  pub promises : 1 ≤ getD b serviceRateAt 0
-  pub service-rate : getD b serviceRateAt 0 ≤ largestRate
-  pub envelope-rate : getD b envelopeRateAt 0 ≤ largestRate
-  pub in-order : getD b sentAt 0 ≤ getD b takenAt 0
-  pub sent-few : getD b sentAt 0 ≤ mostCapacity * done
-  pub waiting : getD b takenAt 0 ≤ getD b sentAt 0 + getD b roomAt 0
-  pub headed : getD b takenAt 0 ≤ getD b envelopeAheadAt 0
 
 pub record Passes (b : List ℕ) (P done : ℕ) : Type 0 where
   pub numbers : Numbers b P done
@@ -129,18 +114,7 @@ module _ (b : List ℕ) (P done : ℕ) (size : length b ≡ blockNumbers) (p : 1
         size = size;
         period = p;
         few = few;
-        service-long = n .service-long;
-        service-short = s;
-        envelope-long = n .envelope-long;
-        envelope-short = e;
-        room = n .room;
-        promises = n .promises;
-        service-rate = n .service-rate;
-        envelope-rate = n .envelope-rate;
-        in-order = n .in-order;
-        sent-few = n .sent-few;
-        waiting = n .waiting;
-        headed = n .headed;
+        numbers = n;
         service-small = small-below b serviceAt ns (omega arith) rs largestValue (t .service);
         envelope-small = small-below b envelopeAt ne (omega arith) re largestValue (t .envelope);
         service-ahead = climbs-curve b sa ns (omega arith) P rs mostAhead p (n .service-long) (t .service-ahead);
@@ -151,29 +125,16 @@ module _ (b : List ℕ) (P done : ℕ) (size : length b ≡ blockNumbers) (p : 1
 
   pub sound-passes : Sound b P done → Passes b P done
   sound-passes t =
-      let s : getD b serviceLengthAt 0 ≤ longestTable = t .service-short in
-      let e : getD b envelopeLengthAt 0 ≤ longestTable = t .envelope-short in
+      let s : getD b serviceLengthAt 0 ≤ longestTable = t .numbers .service-short in
+      let e : getD b envelopeLengthAt 0 ≤ longestTable = t .numbers .envelope-short in
       let ns = getD b serviceLengthAt 0 in
       let rs = getD b serviceRateAt 0 in
       let ne = getD b envelopeLengthAt 0 in
       let re = getD b envelopeRateAt 0 in
       record {
-        numbers = record {
-          service-long = t .service-long;
-          service-short = s;
-          envelope-long = t .envelope-long;
-          envelope-short = e;
-          room = t .room;
-          promises = t .promises;
-          service-rate = t .service-rate;
-          envelope-rate = t .envelope-rate;
-          in-order = t .in-order;
-          sent-few = t .sent-few;
-          waiting = t .waiting;
-          headed = t .headed;
-        };
+        numbers = t .numbers;
         service = below-small b serviceAt ns (omega arith) rs largestValue (t .service-small);
         envelope = below-small b envelopeAt ne (omega arith) re largestValue (t .envelope-small);
-        service-ahead = curve-climbs b serviceAheadAt ns (omega arith) P rs mostAhead p (t .service-long) (t .service-ahead) (t .service-ahead-small);
-        envelope-ahead = curve-climbs b envelopeAheadAt ne (omega arith) P re mostAhead p (t .envelope-long) (t .envelope-ahead) (t .envelope-ahead-small);
+        service-ahead = curve-climbs b serviceAheadAt ns (omega arith) P rs mostAhead p (t .numbers .service-long) (t .service-ahead) (t .service-ahead-small);
+        envelope-ahead = curve-climbs b envelopeAheadAt ne (omega arith) P re mostAhead p (t .numbers .envelope-long) (t .envelope-ahead) (t .envelope-ahead-small);
       }

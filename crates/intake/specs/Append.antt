@@ -59,7 +59,7 @@ module _ (b : List ℕ) (P done : ℕ) where
     pub ahead-lent : (z : List ℕ) (k : ℕ) → z ≡ appended b P done k
         → take (serviceAheadAt + getD b serviceLengthAt 0 - serviceAheadAt) (drop serviceAheadAt z) ≡ part serviceAheadAt (getD b serviceLengthAt 0) b
     ahead-lent z k e =
-        let n : getD b serviceLengthAt 0 ≤ 64 = ok .service-short in
+        let n : getD b serviceLengthAt 0 ≤ 64 = ok .numbers .service-short in
         let s : length b ≡ 752 = ok .size in
         ap (λ (y : List ℕ). take (serviceAheadAt + getD b serviceLengthAt 0 - serviceAheadAt) (drop serviceAheadAt y)) e
         ∙ part-lent (appended b P done k) serviceAheadAt (getD b serviceLengthAt 0)
@@ -68,14 +68,14 @@ module _ (b : List ℕ) (P done : ℕ) where
     -- what the look-up asks
     pub seeks : done < mostSlots → (q : ℕ) → q < freeOf b → Seeks P (serviceAhead b) (packet b q)
     seeks h q l =
-        let n : getD b serviceLengthAt 0 ≤ 64 = ok .service-short in
+        let n : getD b serviceLengthAt 0 ≤ 64 = ok .numbers .service-short in
         let s : length b ≡ 752 = ok .size in
         record {
           curve = ok .service-ahead;
           few = ok .few;
           short = omega (arith, part-length b serviceAheadAt (getD b serviceLengthAt 0) (omega arith));
-          promises = ok .promises;
-          rate = ok .service-rate;
+          promises = ok .numbers .promises;
+          rate = ok .numbers .service-rate;
           small = ok .service-ahead-small;
-          wanted = omega (arith, ok .room, ok .in-order, ok .sent-few, ok .waiting);
+          wanted = omega (arith, ok .numbers .room, ok .numbers .in-order, ok .numbers .sent-few, ok .numbers .waiting);
         }

@@ -61,13 +61,13 @@ module _ (b : List ℕ) (P done k : ℕ) where
     -- as many new numbers as the tables have
     pub service-count : length (advanced P (serviceAhead b) (getD b takenAt 0 + k) (service b .table)) ≡ getD b serviceLengthAt 0
     service-count =
-        let n : getD b serviceLengthAt 0 ≤ 64 = ok .service-short in
+        let n : getD b serviceLengthAt 0 ≤ 64 = ok .numbers .service-short in
         let s : length b ≡ 752 = ok .size in
         length-advanced P (serviceAhead b) (getD b takenAt 0 + k) (service b .table) ∙ part-length b serviceAt (getD b serviceLengthAt 0) (omega arith)
 
     pub envelope-count : length (advanced P (envelopeAhead b) (getD b takenAt 0 + k) (envelope b .table)) ≡ getD b envelopeLengthAt 0
     envelope-count =
-        let n : getD b envelopeLengthAt 0 ≤ 64 = ok .envelope-short in
+        let n : getD b envelopeLengthAt 0 ≤ 64 = ok .numbers .envelope-short in
         let s : length b ≡ 752 = ok .size in
         length-advanced P (envelopeAhead b) (getD b takenAt 0 + k) (envelope b .table) ∙ part-length b envelopeAt (getD b envelopeLengthAt 0) (omega arith)
 
@@ -79,7 +79,7 @@ module _ (b : List ℕ) (P done k : ℕ) where
         go : (i < serviceAheadAt) ⊎ (envelopeAheadAt ≤ i)
             → (i < serviceAheadAt) ⊎ (serviceAheadAt + length (advanced P (serviceAhead b) (getD b takenAt 0 + k) (service b .table)) ≤ i)
         go (inl a) = inl a
-        go (inr a) = inr (omega (arith, service-count, ok .service-short))
+        go (inr a) = inr (omega (arith, service-count, ok .numbers .service-short))
 
     -- the second step: the tables that it reads are those of the block at first
     pub served-by : (z y : List ℕ) → z ≡ counted b P done k
@@ -87,7 +87,7 @@ module _ (b : List ℕ) (P done k : ℕ) where
         → y ≡ served b P done k
     unfolding served
     served-by z y e f =
-        let n : getD b serviceLengthAt 0 ≤ 64 = ok .service-short in
+        let n : getD b serviceLengthAt 0 ≤ 64 = ok .numbers .service-short in
         let s : length b ≡ 752 = ok .size in
         let t : part serviceAheadAt (getD b serviceLengthAt 0) (counted b P done k) ≡ part serviceAheadAt (getD b serviceLengthAt 0) b =
         part-same b (counted b P done k) serviceAheadAt (getD b serviceLengthAt 0) length-counted (omega arith) (λ i h. counted-out (serviceAheadAt + i) (omega arith) (omega arith)) in
@@ -103,7 +103,7 @@ module _ (b : List ℕ) (P done k : ℕ) where
         → y ≡ tookIn b P done k
     unfolding tookIn
     tookIn-by z y e f =
-        let n : getD b envelopeLengthAt 0 ≤ 64 = ok .envelope-short in
+        let n : getD b envelopeLengthAt 0 ≤ 64 = ok .numbers .envelope-short in
         let s : length b ≡ 752 = ok .size in
         let t : part envelopeAheadAt (getD b envelopeLengthAt 0) (served b P done k) ≡ part envelopeAheadAt (getD b envelopeLengthAt 0) b =
         part-same b (served b P done k) envelopeAheadAt (getD b envelopeLengthAt 0) length-served (omega arith) (λ i h. served-out (envelopeAheadAt + i) (omega arith) (omega arith) (inr (omega arith))) in
@@ -117,34 +117,34 @@ module _ (b : List ℕ) (P done k : ℕ) where
       -- what the two steps ask
       pub service-advances : Advances (counted b P done k) serviceAt serviceAheadAt (getD b serviceLengthAt 0) P (getD b serviceRateAt 0) (getD b takenAt 0 + k)
       service-advances =
-          let n : getD b serviceLengthAt 0 ≤ 64 = ok .service-short in
+          let n : getD b serviceLengthAt 0 ≤ 64 = ok .numbers .service-short in
           let s : length b ≡ 752 = ok .size in
           let own = part-length b serviceAt (getD b serviceLengthAt 0) (omega arith) in
           let ahead = part-length b serviceAheadAt (getD b serviceLengthAt 0) (omega arith) in
           record {
             period = ok .period;
-            long = ok .service-long;
+            long = ok .numbers .service-long;
             fits = omega (arith, length-counted);
             apart = omega arith;
-            rate-small = ok .service-rate;
-            total-small = omega (arith, ok .room, ok .in-order, ok .sent-few, ok .waiting);
+            rate-small = ok .numbers .service-rate;
+            total-small = omega (arith, ok .numbers .room, ok .numbers .in-order, ok .numbers .sent-few, ok .numbers .waiting);
             own-small = λ j h. omega (arith, counted-out (serviceAt + j) (omega arith) (omega arith), part-at b serviceAt (getD b serviceLengthAt 0) j h, ok .service-small j (omega arith));
             ahead-small = λ j h. omega (arith, counted-out (serviceAheadAt + j) (omega arith) (omega arith), part-at b serviceAheadAt (getD b serviceLengthAt 0) j h, ok .service-ahead-small j (omega arith));
           }
 
       pub envelope-advances : Advances (served b P done k) envelopeAt envelopeAheadAt (getD b envelopeLengthAt 0) P (getD b envelopeRateAt 0) (getD b takenAt 0 + k)
       envelope-advances =
-          let n : getD b envelopeLengthAt 0 ≤ 64 = ok .envelope-short in
+          let n : getD b envelopeLengthAt 0 ≤ 64 = ok .numbers .envelope-short in
           let s : length b ≡ 752 = ok .size in
           let own = part-length b envelopeAt (getD b envelopeLengthAt 0) (omega arith) in
           let ahead = part-length b envelopeAheadAt (getD b envelopeLengthAt 0) (omega arith) in
           record {
             period = ok .period;
-            long = ok .envelope-long;
+            long = ok .numbers .envelope-long;
             fits = omega (arith, length-served);
             apart = omega arith;
-            rate-small = ok .envelope-rate;
-            total-small = omega (arith, ok .room, ok .in-order, ok .sent-few, ok .waiting);
+            rate-small = ok .numbers .envelope-rate;
+            total-small = omega (arith, ok .numbers .room, ok .numbers .in-order, ok .numbers .sent-few, ok .numbers .waiting);
             own-small = λ j h. omega (arith, served-out (envelopeAt + j) (omega arith) (omega arith) (inl (omega arith)), part-at b envelopeAt (getD b envelopeLengthAt 0) j h, ok .envelope-small j (omega arith));
             ahead-small = λ j h. omega (arith, served-out (envelopeAheadAt + j) (omega arith) (omega arith) (inr (omega arith)), part-at b envelopeAheadAt (getD b envelopeLengthAt 0) j h, ok .envelope-ahead-small j (omega arith));
           }

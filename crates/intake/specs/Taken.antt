@@ -63,18 +63,18 @@ module _ (b : List ℕ) (P done : ℕ) (ok : Sound b P done) (k : ℕ) where
   pub tookIn-service : service (tookIn b P done k) ≡ service b
   tookIn-service =
       same-curve (service b .table) serviceAt _ (getD b serviceLengthAt 0) _ _ (tookIn-front serviceLengthAt (omega arith) (omega arith)) (tookIn-front serviceRateAt (omega arith) (omega arith))
-      (own-part serviceAt (getD b serviceLengthAt 0) (omega arith) (omega (arith, ok .service-short)))
+      (own-part serviceAt (getD b serviceLengthAt 0) (omega arith) (omega (arith, ok .numbers .service-short)))
 
   pub tookIn-envelope : envelope (tookIn b P done k) ≡ envelope b
   tookIn-envelope =
       same-curve (envelope b .table) envelopeAt _ (getD b envelopeLengthAt 0) _ _ (tookIn-front envelopeLengthAt (omega arith) (omega arith)) (tookIn-front envelopeRateAt (omega arith) (omega arith))
-      (own-part envelopeAt (getD b envelopeLengthAt 0) (omega arith) (omega (arith, ok .envelope-short)))
+      (own-part envelopeAt (getD b envelopeLengthAt 0) (omega arith) (omega (arith, ok .numbers .envelope-short)))
 
   pub new-service : part serviceAheadAt (getD b serviceLengthAt 0) (tookIn b P done k) ≡ advanced P (serviceAhead b) (getD b takenAt 0 + k) (service b .table)
   unfolding tookIn served
   new-service =
       let s : length b ≡ 752 = ok .size in
-      let n : getD b serviceLengthAt 0 ≤ 64 = ok .service-short in
+      let n : getD b serviceLengthAt 0 ≤ 64 = ok .numbers .service-short in
       let e = service-count b P done k ok in
       part-same (served b P done k) (tookIn b P done k) serviceAheadAt (getD b serviceLengthAt 0) (length-over (served b P done k) envelopeAheadAt _) (omega (arith, length-served b P done k))
       (λ i q. over-out (served b P done k) envelopeAheadAt _ (serviceAheadAt + i) (inl (omega arith)))
@@ -90,7 +90,7 @@ module _ (b : List ℕ) (P done : ℕ) (ok : Sound b P done) (k : ℕ) where
   unfolding tookIn
   new-envelope =
       let s : length b ≡ 752 = ok .size in
-      let n : getD b envelopeLengthAt 0 ≤ 64 = ok .envelope-short in
+      let n : getD b envelopeLengthAt 0 ≤ 64 = ok .numbers .envelope-short in
       let e = envelope-count b P done k ok in
       ap (λ v. part envelopeAheadAt v (tookIn b P done k)) (sym e)
       ∙ over-part (served b P done k) envelopeAheadAt _ (omega (arith, length-served b P done k))
@@ -104,7 +104,7 @@ module _ (b : List ℕ) (P done : ℕ) (ok : Sound b P done) (k : ℕ) where
   pub as-appended : (i : ℕ) → deadlinesAt ≤ i → getD (tookIn b P done k) i 0 ≡ getD (appended b P done k) i 0
   unfolding counted
   as-appended i h =
-      as-counted i (inr (omega (arith, ok .service-short))) (inr (omega (arith, ok .envelope-short)))
+      as-counted i (inr (omega (arith, ok .numbers .service-short))) (inr (omega (arith, ok .numbers .envelope-short)))
       ∙ getD-set-other (appended b P done k) takenAt i (getD b takenAt 0 + k) 0 (omega arith)
 
   -- a place of the ring that is no new packet's keeps its number

@@ -19,10 +19,8 @@ mostAhead = 64001000
 abbrev pub Below : ℕ → Curve → Type 0
 Below v F = (i : ℕ) → i < length (F .table) → getD (F .table) i 0 ≤ v
 
-pub record Sound (b : List ℕ) (P done : ℕ) : Type 0 where
-  pub size : length b ≡ blockNumbers
-  pub period : 1 ≤ P
-  pub few : P ≤ longestPeriod
+-- a block's plain numbers
+pub record Numbers (b : List ℕ) (P done : ℕ) : Type 0 where
   pub service-long : P ≤ getD b serviceLengthAt 0
   pub service-short : getD b serviceLengthAt 0 ≤ longestTable
   pub envelope-long : P ≤ getD b envelopeLengthAt 0
@@ -37,6 +35,12 @@ pub record Sound (b : List ℕ) (P done : ℕ) : Type 0 where
   pub waiting : getD b takenAt 0 ≤ getD b sentAt 0 + getD b roomAt 0
   -- headroom is never negative
   pub headed : getD b takenAt 0 ≤ getD b envelopeAheadAt 0
+
+pub record Sound (b : List ℕ) (P done : ℕ) : Type 0 where
+  pub size : length b ≡ blockNumbers
+  pub period : 1 ≤ P
+  pub few : P ≤ longestPeriod
+  pub numbers : Numbers b P done
   pub service-small : Below largestValue (service b)
   pub envelope-small : Below largestValue (envelope b)
   pub service-ahead : IsCurve P (serviceAhead b)

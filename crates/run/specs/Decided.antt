@@ -9,10 +9,10 @@ use lib.ListN.{length, getD}
 use Rattle.curve.specs.Order.{le-or-lt}
 use Rattle.sheet.specs.Limits.{mostCapacity, longestPeriod, longestTable, largestValue, largestRate, largestRoom, mostSessions}
 use Rattle.layout.specs.Layout.{runNumbers, mark, markAt, serviceLengthAt, envelopeLengthAt, roomAt, serviceRateAt, envelopeRateAt, takenAt, sentAt, serviceAt, envelopeAt, serviceAheadAt, envelopeAheadAt, block}
-use Rattle.layout.specs.Sound.{mostSlots, mostAhead, Sound}
+use Rattle.layout.specs.Sound.{mostSlots, mostAhead, Numbers, Sound}
 use Rattle.layout.specs.Part.{block-length}
 use Rattle.guard.specs.Opened.{Opened}
-use Rattle.guard.specs.Test.{Small, Climbs, Numbers, Passes, passes-sound, sound-passes}
+use Rattle.guard.specs.Test.{Small, Climbs, Passes, passes-sound, sound-passes}
 use Rattle.send.specs.Send.{noteNumbers}
 use Rattle.intake.specs.Intakes.{outcomeNumbers}
 use Rattle.run.specs.Why.{capacityOf, periodOf, countOf, doneOf, Why}

@@ -32,7 +32,7 @@ pub record AllSharing (run : List ℕ) (count : ℕ) : Type 0 where
   pub each : (i : ℕ) → i < count → Sharing (block run i)
 
 pub sound-sharing : (b : List ℕ) (P done : ℕ) → Sound b P done → Sharing b
-sound-sharing b P done ok = record { headed = ok .headed; in-order = ok .in-order; waiting = ok .waiting; room = ok .room }
+sound-sharing b P done ok = record { headed = ok .numbers .headed; in-order = ok .numbers .in-order; waiting = ok .numbers .waiting; room = ok .numbers .room }
 
 pub all-sharing : (run : List ℕ) (count P done : ℕ) → AllSound run count P done → AllSharing run count
 all-sharing run count P done ok = record { few = ok .few; size = ok .size; each = λ i h. sound-sharing (block run i) P done (ok .sound i h) }

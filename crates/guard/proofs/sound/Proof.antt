@@ -1,9 +1,9 @@
 -- The plain numbers make the four tables lie inside the block; together they are a sound block. Assumes nothing.
 use mathlib.Core.Bool.{Bool, false}
 use native.Mathlib.Omega.{arith}
-use Rattle.layout.specs.Sound.{Sound}
+use Rattle.layout.specs.Sound.{Numbers, Sound}
 use Rattle.guard.specs.Tells.{Tells, tells-false, tells-map}
-use Rattle.guard.specs.Test.{Numbers, Passes, passes-sound, sound-passes}
+use Rattle.guard.specs.Test.{Passes, passes-sound, sound-passes}
 use borrow.Author.Needs.{needs}
 use Rattle.guard.proofs.sound.Statement.{statement}
 use Rattle.guard.proofs.sound.Tie as tie

@@ -86,7 +86,7 @@ took c =
 add-total : tie.Need-add-total
 add-total c =
     let s = start c .pre .0 in
-    omega (arith, fits c, s .room, s .in-order, s .sent-few, s .waiting, start c .pre .1)
+    omega (arith, fits c, s .numbers .room, s .numbers .in-order, s .numbers .sent-few, s .numbers .waiting, start c .pre .1)
 
 append-requires : tie.Need-append-requires
 append-requires c κs = (start (c .before) .pre .0, start (c .before) .pre .1, fits (c .before))
