@@ -44,14 +44,17 @@ pub record Calls (bytes : List ℕ) (n : ℕ) : Type 0 where
   pub opens : Opens bytes start (run 0) opened
   pub slots : (u : ℕ) → u < n → Promises (run u) (offers u) (outcomes u) (notes u) (tally u) (run (suc u)) (outcomes′ u) (notes′ u) (tally′ u) (reply u)
 
--- each slot is lent what it asks: as many offers as sessions, large enough slices, and a tally with room. What is offered is free
+-- each slot is lent what it asks: as many offers as sessions, and large enough slices. What is offered is free
 pub record Lent (bytes : List ℕ) (n : ℕ) (c : Calls bytes n) : Type 0 where
   pub bytes-are : AllBytes bytes
   pub offers-are : (u : ℕ) → u < n → AllBytes (c .offers u)
   pub offered : (u : ℕ) → u < n → length (c .offers u) ≡ sessionCount (sheetOf bytes)
   pub outcomes-fit : (u : ℕ) → u < n → outcomeNumbers * sessionCount (sheetOf bytes) ≤ length (c .outcomes u)
   pub notes-fit : (u : ℕ) → u < n → noteNumbers * sheetOf bytes .capacity ≤ length (c .notes u)
-  pub roomy : (u : ℕ) → u < n → Roomy (c .tally u)
+
+-- and a tally with room
+abbrev pub RoomyTallies : (bytes : List ℕ) (n : ℕ) → Calls bytes n → Type 0
+RoomyTallies bytes n c = (u : ℕ) → u < n → Roomy (c .tally u)
 
 -- the number of a reply, 0 for a refusal
 unfoldable pub answered : Reply → ℕ

@@ -4,3 +4,4 @@ pub mod Numbers
 pub mod Promise
 pub mod Runs
 pub mod Theorem
+pub mod Tally

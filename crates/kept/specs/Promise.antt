@@ -54,6 +54,7 @@ module _ (bytes : List ℕ) (n : ℕ) (c : Calls bytes n) where
     pub conforming : (i : ℕ) → i < sessionCount sheet → Conforms i t → (u : ℕ) → u < t → overIn bytes n c i u ≡ 0
     pub no-room : (i u : ℕ) → i < sessionCount sheet → u < t → 1 ≤ noRoomIn bytes n c i u → taken i u - went i u + tookIn bytes n c i u ≡ session sheet i .room
 
-  -- and no slot is refused
-  pub record Answered (u : ℕ) : Type 0 where
-    pub answers : c .reply u ≡ sent (sentCount bytes n c u)
+  -- DEMAND 3: at the end of each slot all of this is kept, and no slot was refused
+  pub record Demand3 : Type 0 where
+    pub kept : (t : ℕ) → t ≤ n → Kept t
+    pub answered : (u : ℕ) → u < n → c .reply u ≡ sent (sentCount bytes n c u)

@@ -23,7 +23,7 @@ use Rattle.history.specs.After.{runWith, runAfter, IsRun}
 use Rattle.opening.specs.Open.{opened, refused, Opens}
 use Rattle.run.specs.Brought.{Within}
 use Rattle.run.specs.ByRules.{tallyBy, Done}
-use Rattle.kept.specs.Calls.{Calls, Lent, Roomy}
+use Rattle.kept.specs.Calls.{Calls, Lent, Roomy, RoomyTallies}
 
 pub length-runAfter : (sheet : Sheet) (history : List (List ℕ)) → length (runAfter sheet history) ≡ runNumbers
 unfolding runAfter runWith
@@ -86,7 +86,7 @@ fits-tally sheet made p offers bytes t r =
       sent = omega (arith, r .sent, sent-most sheet p offers, made .capacity);
     }
 
-module _ (bytes : List ℕ) (n : ℕ) (c : Calls bytes n) (lent : Lent bytes n c) (most : n ≤ mostSlots) where
+module _ (bytes : List ℕ) (n : ℕ) (c : Calls bytes n) (lent : Lent bytes n c) (roomy : RoomyTallies bytes n c) (most : n ≤ mostSlots) where
   abbrev sheet : Sheet
   sheet = sheetOf bytes
 
@@ -118,7 +118,7 @@ module _ (bytes : List ℕ) (n : ℕ) (c : Calls bytes n) (lent : Lent bytes n c
       c .slots u h .rules sheet made (history u) (omega arith) is .done
       (record { offered = lent .offered u h; outcomes-fit = lent .outcomes-fit u h; notes-fit = lent .notes-fit u h })
       (omega arith)
-      (fits-tally sheet made (after sheet (history u)) (c .offers u) (lent .offers-are u h) (c .tally u) (lent .roomy u h))
+      (fits-tally sheet made (after sheet (history u)) (c .offers u) (lent .offers-are u h) (c .tally u) (roomy u h))
 
   -- AND IT IS THAT RUN
   pub runs : (u : ℕ) → u ≤ n → IsRun sheet (history u) (c .run u)

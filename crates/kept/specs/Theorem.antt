@@ -12,6 +12,7 @@ use Rattle.curve.specs.Total.{total, total-cong}
 use Rattle.curve.specs.Delay.{slot, come}
 use Rattle.sheet.specs.Sheet.{Sheet, session, sessionCount}
 use Rattle.sheet.specs.Bytes.{sheetOf}
+use Rattle.verdict.specs.Verdict.{passed, Says}
 use Rattle.rules.specs.Count.{ind, count, countAll, countAll-snoc}
 use Rattle.rules.specs.Deadline.{deadline, deadline-cong}
 use Rattle.rules.specs.Model.{Packet, Past, serviceOf, delayOf, ofSession, waitingOf, over, takes, noRoom, packet, sends, oneSlot, past, promised}
@@ -20,18 +21,20 @@ use Rattle.rules.specs.Facts.{got, newPacket}
 use Rattle.rules.specs.Intake.{taken-split}
 use Rattle.rules.specs.Main.{Kept as ModelKept, main-theorem, taken-got}
 use Rattle.rules.specs.Which.{was-sent, still-waits}
+use Rattle.layout.specs.Layout.{runNumbers}
 use Rattle.layout.specs.Sound.{mostSlots}
 use Rattle.intake.specs.Intakes.{outcomeNumbers}
 use Rattle.send.specs.Send.{noteNumbers, sessionAt, packetAt, deadlineAt}
 use Rattle.exact.specs.Written.{outcomesBy, notesOf}
 use Rattle.exact.specs.Slot.{due-slot}
+use Rattle.opening.specs.Open.{Answer, opened, Opens}
 use Rattle.run.specs.Slot.{sent}
-use Rattle.kept.specs.Calls.{Calls, Lent, answered, tookIn, overIn, noRoomIn, sentCount, noteSession, sentIn}
+use Rattle.kept.specs.Calls.{Calls, Lent, RoomyTallies, answered, tookIn, overIn, noRoomIn, sentCount, noteSession, sentIn}
 use Rattle.kept.specs.Numbers.{outcome-at, noted-at, noted-count}
-use Rattle.kept.specs.Promise.{taken, went, dueIn, WasSent, Kept, Answered}
+use Rattle.kept.specs.Promise.{taken, went, dueIn, WasSent, Kept, Demand3}
 use Rattle.kept.specs.Runs.{verdict, made, first-past, done}
 
-module _ (bytes : List ℕ) (n : ℕ) (c : Calls bytes n) (lent : Lent bytes n c) (most : n ≤ mostSlots) where
+module _ (bytes : List ℕ) (n : ℕ) (c : Calls bytes n) (lent : Lent bytes n c) (roomy : RoomyTallies bytes n c) (most : n ≤ mostSlots) where
   abbrev sheet : Sheet
   sheet = sheetOf bytes
 
@@ -46,17 +49,17 @@ module _ (bytes : List ℕ) (n : ℕ) (c : Calls bytes n) (lent : Lent bytes n c
   sentAt u = (sends sheet (p u) (told u)) .0
 
   curves : Curves sheet
-  curves = made-curves sheet (made bytes n c lent most)
+  curves = made-curves sheet (made bytes n c lent roomy most)
 
   capacity : WithinCapacity sheet
   capacity =
-      let v = verdict bytes n c lent most in
+      let v = verdict bytes n c lent roomy most in
       passes-within sheet (v .0) (v .1) (v .2 .1)
 
   -- WHAT EACH SLOT WROTE is what the rules say
   module _ (u : ℕ) (h : u < n) where
     answer-is : c .reply u ≡ sent (length (sentAt u))
-    answer-is = done bytes n c lent most u h .answers ∙ ap (λ q. sent (length ((sends sheet q (told u)) .0))) (first-past sheet told u)
+    answer-is = done bytes n c lent roomy most u h .answers ∙ ap (λ q. sent (length ((sends sheet q (told u)) .0))) (first-past sheet told u)
 
     count-is : sentCount bytes n c u ≡ length (sentAt u)
     unfolding answered
@@ -64,12 +67,12 @@ module _ (bytes : List ℕ) (n : ℕ) (c : Calls bytes n) (lent : Lent bytes n c
 
     notes-are : c .notes′ u ≡ notesOf (sentAt u) ++ drop (noteNumbers * length (sentAt u)) (c .notes u)
     notes-are =
-        done bytes n c lent most u h .notes-are
+        done bytes n c lent roomy most u h .notes-are
         ∙ ap (λ q. notesOf ((sends sheet q (told u)) .0) ++ drop (noteNumbers * length ((sends sheet q (told u)) .0)) (c .notes u)) (first-past sheet told u)
 
     outcomes-are : c .outcomes′ u ≡ outcomesBy sheet (p u) (told u) ++ drop (outcomeNumbers * sessionCount sheet) (c .outcomes u)
     outcomes-are =
-        done bytes n c lent most u h .outcomes-are
+        done bytes n c lent roomy most u h .outcomes-are
         ∙ ap (λ q. outcomesBy sheet q (told u) ++ drop (outcomeNumbers * sessionCount sheet) (c .outcomes u)) (first-past sheet told u)
 
     number-at : (i r : ℕ) → i < sessionCount sheet → r < 3 → getD (c .outcomes′ u) (outcomeNumbers * i + r) 0
@@ -139,7 +142,7 @@ module _ (bytes : List ℕ) (n : ℕ) (c : Calls bytes n) (lent : Lent bytes n c
         let v = w .0 in
         let hv : v < n = omega (arith, w .1) in
         let a = noted-at (sentAt v) (drop (noteNumbers * length (sentAt v)) (c .notes v)) (newPacket sheet told i u q) (w .2) in
-        let s = due-slot (sheet .period) (session sheet i) (made bytes n c lent most .each i k) (got sheet told i) (total (got sheet told i) u + q) u (omega arith) in
+        let s = due-slot (sheet .period) (session sheet i) (made bytes n c lent roomy most .each i k) (got sheet told i) (total (got sheet told i) u + q) u (omega arith) in
         record {
           v = v;
           slot-is = w .1;
@@ -161,7 +164,7 @@ module _ (bytes : List ℕ) (n : ℕ) (c : Calls bytes n) (lent : Lent bytes n c
               (λ s h. ap (λ x. x + serviceOf sheet i (t - s)) (taken-is i k s (omega arith) ∙ sym (taken-got sheet told t i s k h))),
         )
 
-    pub keeps : Kept bytes n c t
+    keeps : Kept bytes n c t
     unfolding got
     keeps = record {
       on-time = on-time;
@@ -191,6 +194,11 @@ module _ (bytes : List ℕ) (n : ℕ) (c : Calls bytes n) (lent : Lent bytes n c
         full : (i u : ℕ) → i < sessionCount sheet → waitingOf (p u) i + takes sheet (p u) i (getD (told u) i 0) ≡ session sheet i .room → waitingOf (p u) i + got sheet told i u ≡ session sheet i .room
         full i u k e = e
 
-  -- NO SLOT IS REFUSED
-  pub no-refusal : (u : ℕ) → u < n → Answered bytes n c u
-  no-refusal u h = record { answers = answer-is u h ∙ ap sent (sym (count-is u h)) }
+-- a sheet that passes is opened in every slice that is long enough
+pub opens-if-passed : (bytes start run : List ℕ) (slack t : ℕ) (answer : Answer) → Says bytes (passed slack t) → runNumbers ≤ length start → Opens bytes start run answer → answer ≡ opened
+opens-if-passed bytes start run slack t answer says long o = o .long-enough long (passed slack t) says .0
+
+-- DEMAND 3, for every run of up to a million slots
+pub demand-3 : (bytes : List ℕ) (n : ℕ) (c : Calls bytes n) → Lent bytes n c → RoomyTallies bytes n c → n ≤ mostSlots → Demand3 bytes n c
+demand-3 bytes n c lent roomy most =
+    record { kept = keeps bytes n c lent roomy most; answered = λ u h. answer-is bytes n c lent roomy most u h ∙ ap sent (sym (count-is bytes n c lent roomy most u h)) }

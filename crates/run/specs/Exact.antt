@@ -26,7 +26,7 @@ use Rattle.exact.specs.Opened.{blocks-sound, passes}
 use Rattle.run.specs.Summed.{sumsOf}
 use Rattle.run.specs.Brought.{Within, totalsOf, brought-fits, brought-much}
 use Rattle.run.specs.Why.{capacityOf, periodOf, countOf, doneOf, Fit, Why, one-why}
-use Rattle.run.specs.Slot.{Reply, sent, slotTotals, takenIn, Refuses, Runs, Slots}
+use Rattle.run.specs.Slot.{Reply, sent, slotTotals, takenIn, Refuses, Runs, Slots, Same, one-slot}
 use Rattle.run.specs.ByRules.{tallyBy, Done, Fitting, ByRules, FollowsRules}
 use Rattle.run.specs.declared.tally.Tally.{Tally}
 
@@ -227,3 +227,8 @@ pub record Promises (run offers outcomes notes : List ℕ) (tally : Tally) (run�
 pub promises : {run offers outcomes notes : List ℕ} {tally : Tally} {run′ outcomes′ notes′ : List ℕ} {tally′ : Tally} {reply : Reply}
     → Slots run offers outcomes notes tally run′ outcomes′ notes′ tally′ reply → Promises run offers outcomes notes tally run′ outcomes′ notes′ tally′ reply
 promises s = record { machine = s; rules = by-rules _ _ _ _ _ _ _ _ _ _ s }
+
+-- ONE ANSWER: two calls on the same input that both keep the promise answer and leave the same
+pub one-promise : (run offers outcomes notes : List ℕ) (tally : Tally) (r r′ o o′ n n′ : List ℕ) (t t′ : Tally) (a a′ : Reply)
+    → Promises run offers outcomes notes tally r o n t a → Promises run offers outcomes notes tally r′ o′ n′ t′ a′ → Same r r′ o o′ n n′ t t′ a a′
+one-promise run offers outcomes notes tally r r′ o o′ n n′ t t′ a a′ x y = one-slot run offers outcomes notes tally r r′ o o′ n n′ t t′ a a′ (x .machine) (y .machine)
