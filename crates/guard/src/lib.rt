@@ -19,6 +19,7 @@ use layout::ENVELOPE_RATE_AT;
 use layout::HEAD_NUMBERS;
 use layout::MARK;
 use layout::MARK_AT;
+use layout::MOST_SLOTS;
 use layout::PERIOD_AT;
 use layout::ROOM_AT;
 use layout::SENT_AT;
@@ -35,8 +36,7 @@ use sheet::limits::LONGEST_TABLE;
 use sheet::limits::MOST_CAPACITY;
 use sheet::limits::MOST_SESSIONS;
 
-const MOST_SLOTS: u32 = 1000000;
-
+// Nothing that lies ahead passes this.
 const MOST_AHEAD: u32 = 64001000;
 
 // Of the n numbers from `at` on, none is above `most`.

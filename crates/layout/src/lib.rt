@@ -45,3 +45,6 @@ pub const DEADLINES_AT: usize = 272;
 
 // The deadline of packet N stands at (N-1) mod 256.
 pub const RING: u32 = 256;
+
+// A run has at most so many slots.
+pub const MOST_SLOTS: u32 = 1000000;

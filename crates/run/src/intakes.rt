@@ -8,7 +8,7 @@ use layout::BLOCK_NUMBERS;
 use layout::HEAD_NUMBERS;
 
 // Three numbers are told of a session: taken in, over, no room.
-const OUTCOME_NUMBERS: usize = 3;
+pub const OUTCOME_NUMBERS: usize = 3;
 
 const OVER_OUTCOME: usize = 1;
 

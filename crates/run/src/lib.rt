@@ -2,24 +2,19 @@
 ghost use Rattle.run.specs.Why.{Why};
 ghost use Rattle.run.specs.Slot.{told};
 ghost use Rattle.run.specs.Exact.{Promises};
+use intakes::OUTCOME_NUMBERS;
 use layout::CAPACITY_AT;
 use layout::COUNT_AT;
 use layout::DONE_AT;
+use layout::MOST_SLOTS;
 use layout::PERIOD_AT;
 use layout::RUN_NUMBERS;
+use send::NOTE_NUMBERS;
 use tally::Brought;
 use tally::Tally;
 
 pub mod intakes;
 pub mod tally;
-
-// A run has at most so many slots.
-const MOST_SLOTS: u32 = 1000000;
-
-// Three numbers are told of a session, and three note a packet sent.
-const OUTCOME_NUMBERS: usize = 3;
-
-const NOTE_NUMBERS: usize = 3;
 
 pub enum Answer {
     // How many packets were sent.

@@ -14,7 +14,7 @@ use layout::SENT_AT;
 use layout::TAKEN_AT;
 
 // Three numbers note a packet: its session from 1, its own number, its deadline.
-const NOTE_NUMBERS: usize = 3;
+pub const NOTE_NUMBERS: usize = 3;
 
 const SESSION_AT: usize = 0;
 
