@@ -126,9 +126,6 @@ module _ (run : List ℕ) (sessions : ℕ) (size : runNumbers ≤ length run) (f
     same zero = start l q
     same (suc k) = rw (send-next first k l) (step k ((send first k l) .0) ((send first k l) .1) (same k))
 
-    pub queue-after : (k : ℕ) → Queue (sendRun run sessions k) sessions ((send first k l) .1)
-    queue-after k = same k .queue
-
     pub count-is : (k : ℕ) → sendCount run sessions k ≡ length ((send first k l) .0)
     count-is k = same k .went
 

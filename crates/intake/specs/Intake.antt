@@ -7,7 +7,9 @@ use native.Mathlib.Omega.{arith}
 use lib.ListN.{length, getD, set, length-set}
 use lib.Seq.{getD-set-other}
 use Rattle.layout.specs.Layout.{serviceLengthAt, envelopeLengthAt, serviceRateAt, envelopeRateAt, takenAt, serviceAt, envelopeAt, serviceAheadAt, envelopeAheadAt, deadlinesAt, part, service, envelope, serviceAhead, envelopeAhead}
-use Rattle.layout.specs.Sound.{Sound, mostSlots}
+use Rattle.curve.specs.Curve.{Curve}
+use Rattle.sheet.specs.Limits.{largestValue, largestRate}
+use Rattle.layout.specs.Sound.{Sound, Below, mostSlots, mostAhead}
 use Rattle.layout.specs.Part.{part-length, part-at, part-same}
 use Rattle.intake.specs.Due.{curveWith}
 use Rattle.layout.specs.Over.{over, length-over, over-out}
@@ -35,6 +37,46 @@ intakeOf b P done offered = tookIn b P done (shareOf b offered .taken)
 pub taken-fits : (b : List ℕ) (offered : ℕ) → shareOf b offered .taken ≤ freeOf b
 taken-fits b offered = omega arith
 
+-- a list that still has the two tables of a curve as b has them: its own n numbers at cur, and as many ahead of it at a
+record Keeps (b z : List ℕ) (cur a n : ℕ) : Type 0 where
+  size : length z ≡ length b
+  apart : cur + n ≤ a
+  fits : a + n ≤ length b
+  own : (i : ℕ) → i < n → getD z (cur + i) 0 ≡ getD b (cur + i) 0
+  ahead : (i : ℕ) → i < n → getD z (a + i) 0 ≡ getD b (a + i) 0
+
+-- as many new numbers as the table has
+step-count : (b : List ℕ) (cur n P : ℕ) (F : Curve) (A : ℕ) → cur + n ≤ length b → length (advanced P F A (part cur n b)) ≡ n
+step-count b cur n P F A h = length-advanced P F A (part cur n b) ∙ part-length b cur n h
+
+-- a step of either curve over such a list: the tables that it reads are those of b, and what it asks
+module _ (b z₀ : List ℕ) (cur a n P rate A : ℕ) (keeps : Keeps b z₀ cur a n) where
+  step-by : (z y : List ℕ) → z ≡ z₀ → y ≡ over z a (advancedAt z cur a n P rate A) → y ≡ over z₀ a (advanced P (curveWith (part a n b) rate) A (part cur n b))
+  step-by z y e f =
+      let l = keeps .apart in
+      let m = keeps .fits in
+      f
+      ∙ ap (λ (x : List ℕ). over x a (advancedAt x cur a n P rate A)) e
+      ∙ ap₂ (λ (u v : List ℕ). over z₀ a (advanced P (curveWith u rate) A v)) (part-same b z₀ a n (keeps .size) m (keeps .ahead)) (part-same b z₀ cur n (keeps .size) (omega arith) (keeps .own))
+
+  step-asks : 1 ≤ P → P ≤ n → rate ≤ largestRate → A ≤ mostAhead → Below largestValue (curveWith (part cur n b) rate) → Below mostAhead (curveWith (part a n b) rate)
+      → Advances z₀ cur a n P rate A
+  step-asks p long small most own ahead =
+      let l = keeps .apart in
+      let m = keeps .fits in
+      let lc = part-length b cur n (omega arith) in
+      let la = part-length b a n m in
+      record {
+        period = p;
+        long = long;
+        fits = omega (arith, keeps .size);
+        apart = l;
+        rate-small = small;
+        total-small = most;
+        own-small = λ j h. omega (arith, keeps .own j h, part-at b cur n j h, own j (omega arith));
+        ahead-small = λ j h. omega (arith, keeps .ahead j h, part-at b a n j h, ahead j (omega arith));
+      }
+
 module _ (b : List ℕ) (P done k : ℕ) where
   pub length-counted : length (counted b P done k) ≡ length b
   unfolding counted
@@ -58,18 +100,11 @@ module _ (b : List ℕ) (P done k : ℕ) where
   counted-by z e = ap (λ (y : List ℕ). set y takenAt (getD b takenAt 0 + k)) e
 
   module _ (ok : Sound b P done) where
-    -- as many new numbers as the tables have
     pub service-count : length (advanced P (serviceAhead b) (getD b takenAt 0 + k) (service b .table)) ≡ getD b serviceLengthAt 0
-    service-count =
-        let n : getD b serviceLengthAt 0 ≤ 64 = ok .numbers .service-short in
-        let s : length b ≡ 752 = ok .size in
-        length-advanced P (serviceAhead b) (getD b takenAt 0 + k) (service b .table) ∙ part-length b serviceAt (getD b serviceLengthAt 0) (omega arith)
+    service-count = step-count b serviceAt (getD b serviceLengthAt 0) P (serviceAhead b) (getD b takenAt 0 + k) (omega (arith, ok .numbers .service-short, ok .size))
 
     pub envelope-count : length (advanced P (envelopeAhead b) (getD b takenAt 0 + k) (envelope b .table)) ≡ getD b envelopeLengthAt 0
-    envelope-count =
-        let n : getD b envelopeLengthAt 0 ≤ 64 = ok .numbers .envelope-short in
-        let s : length b ≡ 752 = ok .size in
-        length-advanced P (envelopeAhead b) (getD b takenAt 0 + k) (envelope b .table) ∙ part-length b envelopeAt (getD b envelopeLengthAt 0) (omega arith)
+    envelope-count = step-count b envelopeAt (getD b envelopeLengthAt 0) P (envelopeAhead b) (getD b takenAt 0 + k) (omega (arith, ok .numbers .envelope-short, ok .size))
 
     -- neither what lies ahead of the service, nor the number taken in, nor the ring
     pub served-out : (i : ℕ) → i < deadlinesAt → i ≢ takenAt → (i < serviceAheadAt) ⊎ (envelopeAheadAt ≤ i) → getD (served b P done k) i 0 ≡ getD b i 0
@@ -81,70 +116,53 @@ module _ (b : List ℕ) (P done k : ℕ) where
         go (inl a) = inl a
         go (inr a) = inr (omega (arith, service-count, ok .numbers .service-short))
 
-    -- the second step: the tables that it reads are those of the block at first
+    -- both steps find their tables as they were at first
+    service-keeps : Keeps b (counted b P done k) serviceAt serviceAheadAt (getD b serviceLengthAt 0)
+    service-keeps =
+        let n : getD b serviceLengthAt 0 ≤ 64 = ok .numbers .service-short in
+        record {
+          size = length-counted;
+          apart = omega arith;
+          fits = omega (arith, ok .size);
+          own = λ i h. counted-out (serviceAt + i) (omega arith) (omega arith);
+          ahead = λ i h. counted-out (serviceAheadAt + i) (omega arith) (omega arith);
+        }
+
+    envelope-keeps : Keeps b (served b P done k) envelopeAt envelopeAheadAt (getD b envelopeLengthAt 0)
+    envelope-keeps =
+        let n : getD b envelopeLengthAt 0 ≤ 64 = ok .numbers .envelope-short in
+        record {
+          size = length-served;
+          apart = omega arith;
+          fits = omega (arith, ok .size);
+          own = λ i h. served-out (envelopeAt + i) (omega arith) (omega arith) (inl (omega arith));
+          ahead = λ i h. served-out (envelopeAheadAt + i) (omega arith) (omega arith) (inr (omega arith));
+        }
+
+    -- the second step of the code, and the third
     pub served-by : (z y : List ℕ) → z ≡ counted b P done k
         → y ≡ over z serviceAheadAt (advancedAt z serviceAt serviceAheadAt (getD b serviceLengthAt 0) P (getD b serviceRateAt 0) (getD b takenAt 0 + k))
         → y ≡ served b P done k
     unfolding served
-    served-by z y e f =
-        let n : getD b serviceLengthAt 0 ≤ 64 = ok .numbers .service-short in
-        let s : length b ≡ 752 = ok .size in
-        let t : part serviceAheadAt (getD b serviceLengthAt 0) (counted b P done k) ≡ part serviceAheadAt (getD b serviceLengthAt 0) b =
-        part-same b (counted b P done k) serviceAheadAt (getD b serviceLengthAt 0) length-counted (omega arith) (λ i h. counted-out (serviceAheadAt + i) (omega arith) (omega arith)) in
-        let o : part serviceAt (getD b serviceLengthAt 0) (counted b P done k) ≡ part serviceAt (getD b serviceLengthAt 0) b =
-        part-same b (counted b P done k) serviceAt (getD b serviceLengthAt 0) length-counted (omega arith) (λ i h. counted-out (serviceAt + i) (omega arith) (omega arith)) in
-        f
-        ∙ ap (λ (x : List ℕ). over x serviceAheadAt (advancedAt x serviceAt serviceAheadAt (getD b serviceLengthAt 0) P (getD b serviceRateAt 0) (getD b takenAt 0 + k))) e
-        ∙ ap₂ (λ (u v : List ℕ). over (counted b P done k) serviceAheadAt (advanced P (curveWith u (getD b serviceRateAt 0)) (getD b takenAt 0 + k) v)) t o
+    served-by = step-by b (counted b P done k) serviceAt serviceAheadAt (getD b serviceLengthAt 0) P (getD b serviceRateAt 0) (getD b takenAt 0 + k) service-keeps
 
-    -- and the third
     pub tookIn-by : (z y : List ℕ) → z ≡ served b P done k
         → y ≡ over z envelopeAheadAt (advancedAt z envelopeAt envelopeAheadAt (getD b envelopeLengthAt 0) P (getD b envelopeRateAt 0) (getD b takenAt 0 + k))
         → y ≡ tookIn b P done k
     unfolding tookIn
-    tookIn-by z y e f =
-        let n : getD b envelopeLengthAt 0 ≤ 64 = ok .numbers .envelope-short in
-        let s : length b ≡ 752 = ok .size in
-        let t : part envelopeAheadAt (getD b envelopeLengthAt 0) (served b P done k) ≡ part envelopeAheadAt (getD b envelopeLengthAt 0) b =
-        part-same b (served b P done k) envelopeAheadAt (getD b envelopeLengthAt 0) length-served (omega arith) (λ i h. served-out (envelopeAheadAt + i) (omega arith) (omega arith) (inr (omega arith))) in
-        let o : part envelopeAt (getD b envelopeLengthAt 0) (served b P done k) ≡ part envelopeAt (getD b envelopeLengthAt 0) b =
-        part-same b (served b P done k) envelopeAt (getD b envelopeLengthAt 0) length-served (omega arith) (λ i h. served-out (envelopeAt + i) (omega arith) (omega arith) (inl (omega arith))) in
-        f
-        ∙ ap (λ (x : List ℕ). over x envelopeAheadAt (advancedAt x envelopeAt envelopeAheadAt (getD b envelopeLengthAt 0) P (getD b envelopeRateAt 0) (getD b takenAt 0 + k))) e
-        ∙ ap₂ (λ (u v : List ℕ). over (served b P done k) envelopeAheadAt (advanced P (curveWith u (getD b envelopeRateAt 0)) (getD b takenAt 0 + k) v)) t o
+    tookIn-by = step-by b (served b P done k) envelopeAt envelopeAheadAt (getD b envelopeLengthAt 0) P (getD b envelopeRateAt 0) (getD b takenAt 0 + k) envelope-keeps
 
     module _ (more : done < mostSlots) (fits : k ≤ freeOf b) where
+      total-most : getD b takenAt 0 + k ≤ mostAhead
+      total-most = omega (arith, ok .numbers .room, ok .numbers .in-order, ok .numbers .sent-few, ok .numbers .waiting)
+
       -- what the two steps ask
       pub service-advances : Advances (counted b P done k) serviceAt serviceAheadAt (getD b serviceLengthAt 0) P (getD b serviceRateAt 0) (getD b takenAt 0 + k)
       service-advances =
-          let n : getD b serviceLengthAt 0 ≤ 64 = ok .numbers .service-short in
-          let s : length b ≡ 752 = ok .size in
-          let own = part-length b serviceAt (getD b serviceLengthAt 0) (omega arith) in
-          let ahead = part-length b serviceAheadAt (getD b serviceLengthAt 0) (omega arith) in
-          record {
-            period = ok .period;
-            long = ok .numbers .service-long;
-            fits = omega (arith, length-counted);
-            apart = omega arith;
-            rate-small = ok .numbers .service-rate;
-            total-small = omega (arith, ok .numbers .room, ok .numbers .in-order, ok .numbers .sent-few, ok .numbers .waiting);
-            own-small = λ j h. omega (arith, counted-out (serviceAt + j) (omega arith) (omega arith), part-at b serviceAt (getD b serviceLengthAt 0) j h, ok .service-small j (omega arith));
-            ahead-small = λ j h. omega (arith, counted-out (serviceAheadAt + j) (omega arith) (omega arith), part-at b serviceAheadAt (getD b serviceLengthAt 0) j h, ok .service-ahead-small j (omega arith));
-          }
+          step-asks b (counted b P done k) serviceAt serviceAheadAt (getD b serviceLengthAt 0) P (getD b serviceRateAt 0) (getD b takenAt 0 + k) service-keeps
+          (ok .period) (ok .numbers .service-long) (ok .numbers .service-rate) total-most (ok .service-small) (ok .service-ahead-small)
 
       pub envelope-advances : Advances (served b P done k) envelopeAt envelopeAheadAt (getD b envelopeLengthAt 0) P (getD b envelopeRateAt 0) (getD b takenAt 0 + k)
       envelope-advances =
-          let n : getD b envelopeLengthAt 0 ≤ 64 = ok .numbers .envelope-short in
-          let s : length b ≡ 752 = ok .size in
-          let own = part-length b envelopeAt (getD b envelopeLengthAt 0) (omega arith) in
-          let ahead = part-length b envelopeAheadAt (getD b envelopeLengthAt 0) (omega arith) in
-          record {
-            period = ok .period;
-            long = ok .numbers .envelope-long;
-            fits = omega (arith, length-served);
-            apart = omega arith;
-            rate-small = ok .numbers .envelope-rate;
-            total-small = omega (arith, ok .numbers .room, ok .numbers .in-order, ok .numbers .sent-few, ok .numbers .waiting);
-            own-small = λ j h. omega (arith, served-out (envelopeAt + j) (omega arith) (omega arith) (inl (omega arith)), part-at b envelopeAt (getD b envelopeLengthAt 0) j h, ok .envelope-small j (omega arith));
-            ahead-small = λ j h. omega (arith, served-out (envelopeAheadAt + j) (omega arith) (omega arith) (inr (omega arith)), part-at b envelopeAheadAt (getD b envelopeLengthAt 0) j h, ok .envelope-ahead-small j (omega arith));
-          }
+          step-asks b (served b P done k) envelopeAt envelopeAheadAt (getD b envelopeLengthAt 0) P (getD b envelopeRateAt 0) (getD b takenAt 0 + k) envelope-keeps
+          (ok .period) (ok .numbers .envelope-long) (ok .numbers .envelope-rate) total-most (ok .envelope-small) (ok .envelope-ahead-small)

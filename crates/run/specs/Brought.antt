@@ -103,14 +103,6 @@ module _ (t : Tally) (s : Sums) (c : ℕ) where
           let n : Within (totalsOf t s c) → ⊥ = λ w. true≢false (sym e ∙ within-test (totalsOf t s c) w) in
           inr (n, brought-much n)
 
-  -- what is offered stays shared out, and what is taken in is sent or waits
-  pub totals-offered : t .offered ≡ t .«taken_in» + t .over + t .«no_room» → Small s
-      → totalsOf t s c .offered ≡ totalsOf t s c .«taken_in» + totalsOf t s c .over + totalsOf t s c .«no_room»
-  totals-offered e h = omega (arith, h .parts)
-
-  pub totals-taken : t .«taken_in» ≡ t .sent + s .waiting → totalsOf t s c .«taken_in» ≡ totalsOf t s c .sent + totalsOf t s c .waiting
-  totals-taken e = omega arith
-
   -- the code's answer: so many are sent, and no sum passes the most
   pub brought-by : (sent : ℕ) → sent ≡ sentIn s c
       → t .offered + s .offered ≤ mostTotal → t .«taken_in» + s .«taken_in» ≤ mostTotal → t .over + s .over ≤ mostTotal → t .«no_room» + s .«no_room» ≤ mostTotal → t .sent + sent ≤ mostTotal

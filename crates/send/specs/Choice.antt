@@ -1,6 +1,6 @@
 -- The packet that goes next: of the first waiting packets of the sessions the one with the least deadline, ties to the lower session. An executable choice, its law, and that the law leaves one choice. Assumes nothing.
 use mathlib.Core.Path.{_≡_, refl, sym, ap, _∙_}
-use mathlib.Core.Logic.{_≢_, _⊎_, inl, inr}
+use mathlib.Core.Logic.{_≢_}
 use mathlib.Core.Bool.{Bool, true, false, _&&_, _||_}
 use mathlib.Core.List.{List}
 use Prim.Native.Nat.{ℕ, zero, suc, _+_, _%_, _≤_, _<_}
@@ -197,13 +197,3 @@ pub chosen-waits : (run : List ℕ) (count r : ℕ) → r ≡ chosen run count �
 chosen-waits run count r e n =
     let c : Chosen run count r = rw e (chosen-law run count) in
     (c .among n, c .waits n)
-
--- the order as document 01 has it: an earlier deadline, or the same and no higher session
-pub chosen-before : (run : List ℕ) (count r : ℕ) → Chosen run count r → r ≢ count → (i : ℕ) → i < count → Waits run i
-    → (headDue run r < headDue run i) ⊎ ((headDue run r ≡ headDue run i) × (r ≤ i))
-chosen-before run count r c n i h w = go (decLt (headDue run r) (headDue run i)) (decLt i r)
-  where
-    go : Dec (headDue run r < headDue run i) → Dec (i < r) → (headDue run r < headDue run i) ⊎ ((headDue run r ≡ headDue run i) × (r ≤ i))
-    go (yes d) e = inl d
-    go (no d) (yes e) = inl (c .first n i e w)
-    go (no d) (no e) = inr (omega (arith, c .least n i h w), omega arith)
