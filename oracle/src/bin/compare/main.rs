@@ -3,11 +3,14 @@
 //! this implementation's.
 //! `compare runs SEED COUNT PROGRAM ..` does the same with scripts for a program that opens runs
 //! and runs their slots: the numbered examples, and COUNT random ones.
-//! Where one differs it prints the shortest such sheet or script and ends with status 1.
+//! `compare streams SEED COUNT PROGRAM ..` hands COUNT random streams, a sheet and its slots, to a
+//! program like `slotrun`, one a call, and holds its print-out to this implementation's.
+//! Where one differs it prints the shortest such sheet, script or stream and ends with status 1.
 
 mod program;
 mod runs;
 mod sheets;
+mod streams;
 
 use std::io;
 
@@ -21,6 +24,7 @@ fn main() -> io::Result<()> {
     let alike = match arguments[0].as_str() {
         "sheets" => sheets::compare(seed, count, program)?,
         "runs" => runs::compare(seed, count, program)?,
+        "streams" => streams::compare(seed, count, program)?,
         _ => usage(),
     };
     if !alike {
@@ -30,7 +34,7 @@ fn main() -> io::Result<()> {
 }
 
 fn usage() -> ! {
-    eprintln!("usage: compare sheets|runs SEED COUNT PROGRAM ..");
+    eprintln!("usage: compare sheets|runs|streams SEED COUNT PROGRAM ..");
     std::process::exit(2);
 }
 

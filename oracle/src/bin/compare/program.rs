@@ -59,7 +59,7 @@ fn piece<C: Case>(
     text: &str,
     program: &[String],
 ) -> io::Result<Vec<Difference>> {
-    let written = written(text, program)?;
+    let written = written(text.as_bytes(), program)?;
     let mut lines = written.lines();
     let mut differences = Vec::new();
     for (n, case) in cases.iter().enumerate() {
@@ -83,16 +83,21 @@ fn piece<C: Case>(
     Ok(differences)
 }
 
-fn written(text: &str, program: &[String]) -> io::Result<String> {
+/// What the program writes on some bytes.
+pub fn written(bytes: &[u8], program: &[String]) -> io::Result<String> {
     let mut child = Command::new(&program[0])
         .args(&program[1..])
         .stdin(Stdio::piped())
         .stdout(Stdio::piped())
         .spawn()?;
     let mut input = child.stdin.take().expect("a piped input");
-    let whole = text.to_string();
-    let writer = std::thread::spawn(move || input.write_all(whole.as_bytes()));
+    let whole = bytes.to_vec();
+    let writer = std::thread::spawn(move || input.write_all(&whole));
     let output = child.wait_with_output()?;
-    writer.join().expect("a writer that ends")?;
+    match writer.join().expect("a writer that ends") {
+        // A program may end before it has read all.
+        Err(broken) if broken.kind() == io::ErrorKind::BrokenPipe => {}
+        other => other?,
+    }
     Ok(String::from_utf8_lossy(&output.stdout).into_owned())
 }
