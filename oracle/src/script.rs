@@ -86,6 +86,10 @@ impl Script {
         self.0.is_empty()
     }
 
+    pub fn commands(&self) -> &[Command] {
+        &self.0
+    }
+
     /// The script without some of its commands.
     pub fn without(&self, from: usize, count: usize) -> Script {
         let end = (from + count).min(self.0.len());

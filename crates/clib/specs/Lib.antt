@@ -1,0 +1,4 @@
+-- The library's answers as numbers in lent slices.
+pub mod Numbers
+pub mod Told
+pub mod One
