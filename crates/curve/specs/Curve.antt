@@ -37,7 +37,7 @@ module _ (P : ℕ) (F : Curve) where
 
   in-tail : (k x : ℕ) → length (F .table) < x → value (suc k) P F x ≡ value k P F (x - P) + F .rate
   unfolding value
-  in-tail k x h = rw (lt-leb x (length (F .table)) h, value)
+  in-tail k x h = rw (lt-leb x (length (F .table)) h, value) refl
 
   -- two bounds that are large enough give one value
   enough : 1 ≤ P → (k l x : ℕ) → x ≤ k → x ≤ l → value k P F x ≡ value l P F x

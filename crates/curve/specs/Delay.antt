@@ -129,7 +129,7 @@ pub record First (f : ℕ → ℕ) (q m : ℕ) : Type 0 where
 -- no D(q) has come before slot 1
 pub delay-from : (P : ℕ) (S : Curve) (q t : ℕ) → T (come (delay P S q) t) → 1 ≤ t
 unfolding delay
-delay-from P S q t = find-from (at P S) q (length (S .table) + q * P) 1 t
+delay-from P S q t h = omega (arith, find-from (at P S) q (length (S .table) + q * P) _ t h)
 
 module _ (P : ℕ) (S : Curve) (good : IsCurve P S) where
   -- D LAW: D(q) ≤ m exactly when q ≤ S(m), for m ≥ 1 and every rate

@@ -45,13 +45,14 @@ pub record Opens (bytes run after : List ℕ) (answer : Answer) : Type 0 where
 pub opens-short : (bytes run : List ℕ) → length run < runNumbers → Opens bytes run run (refused 13 0)
 opens-short bytes run h = record { too-short = λ k. (refl, refl); long-enough = λ k. absurd (omega arith) }
 
-pub opens-by : (bytes run : List ℕ) (v : Case) → runNumbers ≤ length run → Says bytes v → Opens bytes run (runBy v bytes run) (answerBy v)
-opens-by bytes run v h s =
+pub opens-by : (bytes run after : List ℕ) (answer : Answer) (v : Case) → runNumbers ≤ length run → Says bytes v
+    → answer ≡ answerBy v → after ≡ runBy v bytes run → Opens bytes run after answer
+opens-by bytes run after answer v h s a r =
     record {
       too-short = λ k. absurd (omega arith);
       long-enough = λ k w t.
           let e = one-case bytes v w s t in
-          (ap answerBy e, ap (λ u. runBy u bytes run) e);
+          (a ∙ ap answerBy e, r ∙ ap (λ u. runBy u bytes run) e);
     }
 
 -- ONE ANSWER: two calls on the same bytes and the same slice answer and leave the same

@@ -29,6 +29,15 @@ unfoldable pub deadline : (ℕ → Due) → (ℕ → ℕ) → ℕ → ℕ → Du
 deadline D a N zero = slot 0
 deadline D a N (suc j) = later (deadline D a N j) (ifAny (a j) (shift j (D (N - total a j))))
 
+-- K2, where D(q) is q: of 3 packets taken in in slot 1 the first is due in slot 1; the next, taken in in slot 2, is due in slot 4, since slot 1 binds it too
+k2-intake : ℕ → ℕ
+k2-intake zero = 3
+k2-intake (suc j) = 1
+
+k2-due : (deadline slot k2-intake 1 1 ≡ slot 1) × (deadline slot k2-intake 4 2 ≡ slot 4)
+unfolding deadline later shift ifAny total k2-intake
+k2-due = (refl, refl)
+
 -- the larger has come when both have
 pub come-later : (d e : Due) (t : ℕ) → T (come (later d e) t) ↔ (T (come d t) × T (come e t))
 unfolding come later

@@ -1,8 +1,8 @@
--- One slot as document 01 has it, rule by rule and in its order, over a sheet and the whole past: nothing of an older slot is forgotten. Definitions alone,
--- and they compute: 01's examples are run on them.
+-- One slot as document 01 has it, rule by rule and in its order, over a sheet and the whole past: nothing of an older slot is forgotten. The rules are
+-- definitions that compute, and at the end 01's examples are run on them: a wrong rule shows there as another run. Assumes nothing.
 --
 -- Sessions are indexed from 0 here; a packet carries its session as 01 counts it, from 1. What happened in slot u + 1 stands at index u of a list.
-use mathlib.Core.Path.{_≡_}
+use mathlib.Core.Path.{_≡_, refl}
 use mathlib.Core.Bool.{Bool, true, false}
 use mathlib.Core.List.{List, [], _∷_, _++_}
 use Prim.Native.Nat.{ℕ, zero, suc, _+_, _-_, min, compare, Ordering, Ordering·lt, Ordering·eq, Ordering·gt}
@@ -10,13 +10,13 @@ use lib.Dec.{leb, eqb}
 use lib.ListN.{length, getD}
 use Rattle.curve.specs.Least.{least}
 use Rattle.curve.specs.Total.{total}
-use Rattle.curve.specs.Curve.{at}
-use Rattle.curve.specs.Delay.{Due, slot, never, delay}
+use Rattle.curve.specs.Curve.{Curve, entry, value, at}
+use Rattle.curve.specs.Delay.{Due, slot, never, come, find, delay}
 use Rattle.sheet.specs.Sheet.{Sheet, session, sessionCount}
 use Rattle.rules.specs.Steps.{steps}
-use Rattle.rules.specs.Count.{count}
-use Rattle.rules.specs.Pick.{send}
-use Rattle.rules.specs.Deadline.{deadline}
+use Rattle.rules.specs.Count.{ind, count}
+use Rattle.rules.specs.Pick.{keep, extract, send}
+use Rattle.rules.specs.Deadline.{later, shift, ifAny, deadline}
 
 -- a packet that was taken in: its session from 1, its number in the session from 1, its deadline
 pub record Packet : Type 0 where
@@ -153,3 +153,71 @@ takenBy p i s = total (took (p .taken) i) s
 -- What S promises by the end of slot t: the least of A(s) + S(t-s) over s = 0..t
 unfoldable pub promised : (ℕ → ℕ) → (ℕ → ℕ) → ℕ → ℕ
 promised S A t = least (λ s. A s + S (t - s)) t
+
+-- 01's examples. A packet by its session, its number and its deadline
+abbrev pack : ℕ → ℕ → ℕ → Packet
+pack owner number due = record { owner = owner; number = number; due = slot due }
+
+abbrev pub service : Curve
+service = record { table = 1 ∷ []; rate = 1 }
+
+abbrev pub envelope : Curve
+envelope = record { table = 3 ∷ []; rate = 1 }
+
+-- the sheet of K1 and K2
+abbrev pub K2 : Sheet
+K2 = record { capacity = 1; period = 1; sessions = record { service = service; envelope = envelope; room = 4 } ∷ [] }
+
+-- the sheet of K3 and K12
+abbrev pub K3 : Sheet
+K3 =
+    record {
+      capacity = 1;
+      period = 2;
+      sessions =
+          record { service = record { table = 0 ∷ 1 ∷ []; rate = 1 }; envelope = record { table = 2 ∷ 2 ∷ []; rate = 1 }; room = 4 }
+          ∷ record { service = record { table = 1 ∷ 1 ∷ []; rate = 1 }; envelope = record { table = 2 ∷ 2 ∷ []; rate = 1 }; room = 4 }
+          ∷ [];
+    }
+
+-- two sessions whose packets are due in one slot
+abbrev pair : Sheet
+pair =
+    record {
+      capacity = 2;
+      period = 1;
+      sessions = record { service = service; envelope = envelope; room = 4 } ∷ record { service = service; envelope = envelope; room = 4 } ∷ [];
+    }
+
+-- a room that is soon full
+abbrev narrow : Sheet
+narrow = record { capacity = 1; period = 1; sessions = record { service = service; envelope = envelope; room = 2 } ∷ [] }
+
+pub record Runs : Type 0 where
+  -- K2: slot 1 takes 3 and slot 2 takes 1, with deadlines 1, 2, 3, 4
+  pub k2 : after K2 ((3 ∷ []) ∷ (3 ∷ []) ∷ [])
+      ≡ record {
+        taken = (3 ∷ []) ∷ (1 ∷ []) ∷ [];
+        waiting = pack 1 3 3 ∷ pack 1 4 4 ∷ [];
+        sent = (pack 1 1 1 ∷ []) ∷ (pack 1 2 2 ∷ []) ∷ [];
+      }
+  -- of the 3 offered in slot 2, 2 are over and none is without room
+  pub k2-over : over K2 (after K2 ((3 ∷ []) ∷ [])) 0 3 ≡ 2
+  pub k2-room : noRoom K2 (after K2 ((3 ∷ []) ∷ [])) 0 3 ≡ 0
+  -- K12: the run that 01 prints; all that was taken in is sent
+  pub k12 : after K3 ((2 ∷ 2 ∷ []) ∷ (0 ∷ 0 ∷ []) ∷ (0 ∷ 0 ∷ []) ∷ (0 ∷ 0 ∷ []) ∷ [])
+      ≡ record {
+        taken = (2 ∷ 2 ∷ []) ∷ (0 ∷ 0 ∷ []) ∷ (0 ∷ 0 ∷ []) ∷ (0 ∷ 0 ∷ []) ∷ [];
+        waiting = [];
+        sent = (pack 2 1 1 ∷ []) ∷ (pack 1 1 2 ∷ []) ∷ (pack 2 2 3 ∷ []) ∷ (pack 1 2 4 ∷ []) ∷ [];
+      }
+  -- of equal deadlines the lower session goes first
+  pub tied : after pair ((1 ∷ 1 ∷ []) ∷ []) .sent ≡ ((pack 1 1 1 ∷ pack 2 1 1 ∷ []) ∷ [])
+  -- with 1 waiting in a room of 2, of 3 offered 1 is over, 1 is taken in and 1 finds no room
+  pub crowded : noRoom narrow (after narrow ((3 ∷ []) ∷ [])) 0 3 ≡ 1
+
+-- THE MODEL RUNS THEM SO
+pub runs : Runs
+unfolding after steps oneSlot sends arrivals takenIn packet joined upTo listed noRoom takes over waitingOf headroomOf headroom ofSession took first tie
+    compareDue thenBy envelopeOf serviceOf delayOf session least total count send extract keep at value entry come later shift find delay ifAny deadline ind
+runs = record { k2 = refl; k2-over = refl; k2-room = refl; k12 = refl; tied = refl; crowded = refl }

@@ -81,7 +81,7 @@ returns c =
     let s = c .before .before .before .before .before in
     let i = c .before .before .before .table .i in
     delay-is (s .args .period .0) (curve s) (s .pre .0 .1) (s .args .q .0) (i + 1)
-    (first-in (s .args .period .0) (curve s) (s .args .q .0) i (omega (arith, size s)) (rw (c .before .entry .ensures .0) at (c .if1 .taken)) (c .before .before .before .table .inv .1))
+    (first-in (s .args .period .0) (curve s) (s .args .q .0) i (omega (arith, size s)) (omega (arith, c .before .entry .ensures .0)) (c .before .before .before .table .inv .1))
 
 add-i : tie.Need-add-i Inv-table μ-table Inv-period μ-period
 add-i c = omega arith
@@ -90,7 +90,7 @@ table-less : tie.Need-table-less Inv-table μ-table Inv-period μ-period
 table-less c = omega arith
 
 table-again : tie.Need-table-again Inv-table μ-table Inv-period μ-period
-table-again c = (omega arith, below-more _ _ (c .before .before .before .table .inv .1) (rw (c .before .entry .ensures .0) at (c .if1 .left)))
+table-again c = (omega arith, below-more _ _ (c .before .before .before .table .inv .1) (omega (arith, c .before .entry .ensures .0)))
 
 sub-entry : tie.Need-sub-entry Inv-table μ-table Inv-period μ-period
 sub-entry c = omega (arith, size (c .before .before .before))

@@ -2,7 +2,7 @@
 use mathlib.Core.Path.{_≡_, ap, ap₂, _∙_}
 use mathlib.Core.List.{List}
 use mathlib.Core.Logic.{⊎-elim}
-use Prim.Native.Nat.{ℕ, _+_, _-_, _≤_, _<_}
+use Prim.Native.Nat.{ℕ, _+_, _-_, _≤_, _<_, min}
 use native.Mathlib.Omega.{arith}
 use lib.ListN.{length, getD, set, length-set}
 use Rattle.curve.specs.Curve.{at}
@@ -114,11 +114,13 @@ numbers-again c =
     ⊎-elim
     (λ v. v .2 ∙ ap (λ (r : List ℕ). getD r (a .at + (j + 1)) 0) (w .numbers .inv .2) ∙ next-in l (a .cur) (a .at) (a .n) (a .period) (a .rate) (a .total) (s .pre) j h (v .0 .taken))
     (λ v. v .1 ∙ next-join l (a .cur) (a .at) (a .n) (a .period) (a .rate) (a .total) (s .pre) j h (v .0 .left))
-    (k .if1 .came) in (
+    (k .if1 .came) in
+    let own = getD (w .numbers .block) (a .cur + j) 0 in
+    let lesser : c .lesser .result ≡ min (k .if1 .next) (a .total + own) = c .lesser .ensures in (
       omega arith,
       simp length-set (w .numbers .inv .1),
-      ap₂ (λ (r : List ℕ) (v : ℕ). set r (a .at + j) v) (w .numbers .inv .2) (c .lesser .ensures)
-          ∙ advancing-more l (a .cur) (a .at) (a .n) (a .period) (a .rate) (a .total) (s .pre) j h (k .if1 .next) _ e (ap (λ (r : List ℕ). getD r (a .cur + j) 0) (w .numbers .inv .2)),
+      ap₂ (λ (r : List ℕ) (v : ℕ). set r (a .at + j) v) (w .numbers .inv .2) lesser
+          ∙ advancing-more l (a .cur) (a .at) (a .n) (a .period) (a .rate) (a .total) (s .pre) j h (k .if1 .next) own e (ap (λ (r : List ℕ). getD r (a .cur + j) 0) (w .numbers .inv .2)),
     )
 
 same-length : tie.Need-same-length Inv-numbers μ-numbers

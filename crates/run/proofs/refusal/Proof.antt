@@ -64,7 +64,7 @@ returns-5 : tie.Need-returns-5
 returns-5 c =
     let t = c .before .before .before .before .before .before .before in
     let d = c .before .before in
-    Why.none (record { size = size t; opened = is-opened t; offered = d .before .before .if3 .left; outs-fit = d .before .if4 .left; sents-fit = d .if5 .left; left = c .if6 .taken })
+    Why.none (record { size = size t; opened = is-opened t; offered = d .before .before .if3 .left; outs-fit = d .before .if4 .left; sents-fit = d .if5 .left; left = omega (arith, c .if6 .taken) })
 
 returns-6 : tie.Need-returns-6
 returns-6 c =

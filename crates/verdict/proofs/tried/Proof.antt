@@ -5,32 +5,42 @@ use native.Mathlib.Omega.{arith}
 use borrow.Author.Needs.{needs}
 use denote.Ref.{now}
 use Rattle.curve.specs.Curve.{at}
+use Rattle.sheet.specs.declared.Table.{Table}
 use Rattle.sheet.specs.Bytes.{sessionOf}
+use Rattle.sheet.specs.Told.{tableIn}
 use Rattle.verdict.specs.Share.{better}
 use Rattle.verdict.specs.Ready.{curve-most, service-sized, envelope-sized, service-at, envelope-at}
 use Rattle.verdict.proofs.tried.Statement.{statement}
 use Rattle.verdict.proofs.tried.Tie as tie
 
+-- a look-up in the table of one part
+abbrev lookUp : tie.Start → Table → ℕ → ℕ
+lookUp s part x = at (s .args .period .0) (tableIn (now (s .args .rest)) part) x
+
 -- the four look-ups
 one-b : (c : tie.After-value) → c .value .result .0 ≡ at (c .before .before .before .before .before .before .before .args .period .0) (sessionOf (now (c .before .before .before .before .before .before .before .args .rest)) .envelope) (c .before .before .before .before .before .before .before .args .x .0)
 one-b c =
     let s = c .before .before .before .before .before .before .before in
-    c .value .ensures ∙ envelope-at (s .args .period .0) (now (s .args .rest)) (s .args .s) (s .pre .0) _
+    let e : c .value .result .0 ≡ lookUp s (s .args .s .envelope) (s .args .x .0) = c .value .ensures in
+    e ∙ envelope-at (s .args .period .0) (now (s .args .rest)) (s .args .s) (s .pre .0) _
 
 one-S : (c : tie.After-value2) → c .value2 .result .0 ≡ at (c .before .before .before .before .before .before .before .before .before .args .period .0) (sessionOf (now (c .before .before .before .before .before .before .before .before .before .args .rest)) .service) (c .before .before .before .before .before .before .before .before .before .args .t .0 - c .before .before .before .before .before .before .before .before .before .args .x .0)
 one-S c =
     let s = c .before .before .before .before .before .before .before .before .before in
-    c .value2 .ensures ∙ service-at (s .args .period .0) (now (s .args .rest)) (s .args .s) (s .pre .0) _
+    let e : c .value2 .result .0 ≡ lookUp s (s .args .s .service) (s .args .t .0 - s .args .x .0) = c .value2 .ensures in
+    e ∙ service-at (s .args .period .0) (now (s .args .rest)) (s .args .s) (s .pre .0) _
 
 two-b : (c : tie.After-value3) → c .value3 .result .0 ≡ at (c .before .before .before .before .before .before .before .before .before .before .before .before .before .args .period .0) (sessionOf (now (c .before .before .before .before .before .before .before .before .before .before .before .before .before .args .rest)) .envelope) (c .before .before .before .before .before .before .before .before .before .before .before .before .before .args .t .0 - c .before .before .before .before .before .before .before .before .before .before .before .before .before .args .x .0)
 two-b c =
     let s = c .before .before .before .before .before .before .before .before .before .before .before .before .before in
-    c .value3 .ensures ∙ envelope-at (s .args .period .0) (now (s .args .rest)) (s .args .s) (s .pre .0) _
+    let e : c .value3 .result .0 ≡ lookUp s (s .args .s .envelope) (s .args .t .0 - s .args .x .0) = c .value3 .ensures in
+    e ∙ envelope-at (s .args .period .0) (now (s .args .rest)) (s .args .s) (s .pre .0) _
 
 two-S : (c : tie.After-value4) → c .value4 .result .0 ≡ at (c .before .before .before .before .before .before .before .before .before .before .before .before .before .before .before .args .period .0) (sessionOf (now (c .before .before .before .before .before .before .before .before .before .before .before .before .before .before .before .args .rest)) .service) (c .before .before .before .before .before .before .before .before .before .before .before .before .before .before .before .args .x .0)
 two-S c =
     let s = c .before .before .before .before .before .before .before .before .before .before .before .before .before .before .before in
-    c .value4 .ensures ∙ service-at (s .args .period .0) (now (s .args .rest)) (s .args .s) (s .pre .0) _
+    let e : c .value4 .result .0 ≡ lookUp s (s .args .s .service) (s .args .x .0) = c .value4 .ensures in
+    e ∙ service-at (s .args .period .0) (now (s .args .rest)) (s .args .s) (s .pre .0) _
 
 -- their values are small
 small : (s : tie.Start) (x : ℕ) → (at (s .args .period .0) (sessionOf (now (s .args .rest)) .envelope) x ≤ 500 + 256 * x) × (at (s .args .period .0) (sessionOf (now (s .args .rest)) .service) x ≤ 500 + 256 * x)

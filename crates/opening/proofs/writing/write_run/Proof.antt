@@ -41,10 +41,15 @@ cleared c =
 few : (c : tie.After-fields Inv-loop μ-loop) → c .before .before .before .loop .i < 16
 few c = below-most _ _ _ _ _ (c .before .before .before .before .before .before .before .before .before .before .pre .0) _ (c .before .before .loop-test .taken)
 
+-- the five stores of the head
+abbrev stored : tie.After-slice-known2 Inv-loop μ-loop → List ℕ
+stored c =
+    let s = c .before .before .before .before .before .before in
+    set (set (set (set (set (c .before .before .clear .last .0) 0 mark) 1 (s .args .c .0)) 2 (s .args .period .0)) 3 (s .args .count)) 4 0
+
 -- the head over zeros
 head-is : (c : tie.After-slice-known2 Inv-loop μ-loop)
-    → set (set (set (set (set (c .before .before .clear .last .0) 0 mark) 1 (c .before .before .before .before .before .before .args .c .0)) 2 (c .before .before .before .before .before .before .args .period .0)) 3 (c .before .before .before .before .before .before .args .count)) 4 0
-    ≡ headed _ _ _ _ _ (c .before .before .before .before .before .before .pre .0) (past (c .before .before .before .before .before .before))
+    → stored c ≡ headed _ _ _ _ _ (c .before .before .before .before .before .before .pre .0) (past (c .before .before .before .before .before .before))
 unfolding over puts
 head-is c =
     let r = c .before .before .before .before .before .before .pre .0 in
@@ -56,7 +61,8 @@ held : (c : tie.At-loop Inv-loop μ-loop)
     ≡ blocksOver (headed _ _ _ _ _ (c .before .before .before .before .before .before .before .pre .0) (past (c .before .before .before .before .before .before .before))) (sheetOf (now (c .before .before .before .before .before .before .before .args .bytes))) (moving (sheetOf (now (c .before .before .before .before .before .before .before .args .bytes)))) (c .loop .i)
 held c =
     let sheet = sheetOf (now (c .before .before .before .before .before .before .before .args .bytes)) in
-    c .loop .inv .1 ∙ ap (λ l. blocksOver l sheet (moving sheet) (c .loop .i)) (head-is (c .before))
+    let e : c .loop .run ≡ blocksOver (stored (c .before)) sheet (moving sheet) (c .loop .i) = c .loop .inv .1 in
+    e ∙ ap (λ l. blocksOver l sheet (moving sheet) (c .loop .i)) (head-is (c .before))
 
 long : (c : tie.At-loop Inv-loop μ-loop) → length (c .loop .run) ≡ length (now (c .before .before .before .before .before .before .before .args .run))
 long c =

@@ -1,6 +1,6 @@
 -- Each test tells whether one total would pass the most; where none would, the sums are safe. Assumes nothing.
 use mathlib.Core.Path.{_≡_, sym}
-use Prim.Native.Nat.{ℕ, _+_, _^_, _≤_, _<_, min}
+use Prim.Native.Nat.{ℕ, _+_, _-_, _^_, _≤_, _<_, min}
 use native.Mathlib.Omega.{arith}
 use borrow.Author.Needs.{needs}
 use Rattle.run.specs.Brought.{mostTotal, passes, brought-much, brought-by}
@@ -15,6 +15,9 @@ lesser-right a b r e = omega arith
 
 pass-sent : (a b c : ℕ) → b ≡ c → a + c ≤ mostTotal → a + b ≤ mostTotal
 pass-sent a b c e h = omega arith
+
+within : (a b : ℕ) → a ≤ mostTotal → b ≤ mostTotal - a → a + b ≤ mostTotal
+within a b h g = omega arith
 
 add-waiting : tie.Need-add-waiting
 add-waiting c = search needs
@@ -91,9 +94,10 @@ returns-6 c =
     let taken = add-t8 (c .before .before .before .before .before) in
     let over = add-t9 (c .before .before .before) in
     let no-room = add-t10 (c .before) in
-    let sent = add-t11 c in
+    let e = c .before .before .before .before .before .before .before .before .before in
+    let sent = within (a .tally .sent) (f .lesser .result) (sub-if5 (e .before)) (e .if5 .left) in
     brought-by (a .tally) (a .sums) (a .capacity) (f .lesser .result) (f .lesser .ensures)
-    (most _ (offered .fits)) (most _ (taken .fits)) (most _ (over .fits)) (most _ (no-room .fits)) (most _ (sent .fits))
+    (most _ (offered .fits)) (most _ (taken .fits)) (most _ (over .fits)) (most _ (no-room .fits)) sent
 
 pub brought-up-spec : {M : Type 1} → statement M
 brought-up-spec =

@@ -1,5 +1,5 @@
 -- Each test is a line of the table, in order: the lines before it did not apply. Assumes nothing.
-use mathlib.Core.Path.{_≡_, sym, _∙_}
+use mathlib.Core.Path.{_≡_, sym, ap, _∙_}
 use mathlib.Core.Bool.{Bool, not}
 use Prim.Native.Nat.{ℕ, _-_}
 use native.Mathlib.Omega.{arith}
@@ -8,8 +8,8 @@ use borrow.Author.Tests.{lt-ltb, le-ltb}
 use denote.Ref.{now}
 use lib.Dec.{ltb, eqb}
 use lib.ListN.{length, drop}
-use Rattle.sheet.specs.Refusal.{first, first-here, first-next, clear-nil, or-left, or-right, or-neither, differs, agrees}
-use Rattle.sheet.specs.Limits.{version, lengthBytes, mostFollowing}
+use Rattle.sheet.specs.Refusal.{first, first-here, first-next, clear-nil, outside, or-left, or-right, or-neither, differs, agrees}
+use Rattle.sheet.specs.Limits.{version, lengthBytes, mostFollowing, mostCapacity, longestPeriod, mostSessions}
 use Rattle.sheet.specs.Bytes.{following, versionOf}
 use Rattle.sheet.specs.Reading.{headLines}
 use Rattle.sheet.proofs.head.head_fault.Statement.{statement}
@@ -25,6 +25,10 @@ above s = ltb mostFollowing (following (now (s .args .bytes)))
 
 abbrev other : tie.Start → Bool
 other s = not (eqb (following (now (s .args .bytes))) (length (now (s .args .bytes)) - lengthBytes))
+
+-- a byte whose range was tested: it lies outside as the test answered
+tested : (low high x y : ℕ) (r b : Bool) → x ≡ y → r ≡ outside low high x → r ≡ b → outside low high y ≡ b
+tested low high x y r b e f g = ap (outside low high) (sym e) ∙ sym f ∙ g
 
 past-1 : (c : tie.Else1) → Past 1 (c .before .before)
 unfolding headLines
@@ -43,15 +47,15 @@ past-3 c = past-2 (c .before .before) ∙ first-next _ _ _ _ (agrees (versionOf 
 
 past-4 : (c : tie.Else5) → Past 4 (c .before .before .before .before .before .before .before .before .before .before)
 unfolding headLines
-past-4 c = past-3 (c .before .before .before) ∙ first-next _ _ _ _ (cc)
+past-4 c = past-3 (c .before .before .before) ∙ first-next _ _ _ _ (tested 1 mostCapacity _ _ _ _ (c .before .before .byte2 .ensures .0) (c .before .outside .ensures) (c .if5 .left))
 
 past-5 : (c : tie.Else6) → Past 5 (c .before .before .before .before .before .before .before .before .before .before .before .before .before)
 unfolding headLines
-past-5 c = past-4 (c .before .before .before) ∙ first-next _ _ _ _ (cc)
+past-5 c = past-4 (c .before .before .before) ∙ first-next _ _ _ _ (tested 1 longestPeriod _ _ _ _ (c .before .before .byte3 .ensures .0) (c .before .outside2 .ensures) (c .if6 .left))
 
 past-6 : (c : tie.Else7) → Past 6 (c .before .before .before .before .before .before .before .before .before .before .before .before .before .before .before .before)
 unfolding headLines
-past-6 c = past-5 (c .before .before .before) ∙ first-next _ _ _ _ (cc)
+past-6 c = past-5 (c .before .before .before) ∙ first-next _ _ _ _ (tested 1 mostSessions _ _ _ _ (c .before .before .byte4 .ensures .0) (c .before .outside3 .ensures) (c .if7 .left))
 
 returns : tie.Need-returns
 unfolding headLines
@@ -99,7 +103,7 @@ outside-requires c κs = search needs
 
 returns-5 : tie.Need-returns-5
 unfolding headLines
-returns-5 c = sym (past-3 (c .before .before .before) ∙ first-here _ _ _ _ (cc))
+returns-5 c = sym (past-3 (c .before .before .before) ∙ first-here _ _ _ _ (tested 1 mostCapacity _ _ _ _ (c .before .before .byte2 .ensures .0) (c .before .outside .ensures) (c .if5 .taken)))
 
 byte-requires-3 : tie.Need-byte-requires-3
 byte-requires-3 c κs = search needs
@@ -109,7 +113,7 @@ outside-requires-2 c κs = search needs
 
 returns-6 : tie.Need-returns-6
 unfolding headLines
-returns-6 c = sym (past-4 (c .before .before .before) ∙ first-here _ _ _ _ (cc))
+returns-6 c = sym (past-4 (c .before .before .before) ∙ first-here _ _ _ _ (tested 1 longestPeriod _ _ _ _ (c .before .before .byte3 .ensures .0) (c .before .outside2 .ensures) (c .if6 .taken)))
 
 byte-requires-4 : tie.Need-byte-requires-4
 byte-requires-4 c κs = search needs
@@ -119,7 +123,7 @@ outside-requires-3 c κs = search needs
 
 returns-7 : tie.Need-returns-7
 unfolding headLines
-returns-7 c = sym (past-5 (c .before .before .before) ∙ first-here _ _ _ _ (cc))
+returns-7 c = sym (past-5 (c .before .before .before) ∙ first-here _ _ _ _ (tested 1 mostSessions _ _ _ _ (c .before .before .byte4 .ensures .0) (c .before .outside3 .ensures) (c .if7 .taken)))
 
 returns-8 : tie.Need-returns-8
 unfolding headLines
