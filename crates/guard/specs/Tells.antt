@@ -7,7 +7,7 @@ use native.Mathlib.Omega.{arith}
 abbrev pub Tells : Bool → Type 0 → Type 0
 Tells r A = (r ≡ true → A) × (r ≡ false → A → ⊥)
 
-apart : true ≡ false → ⊥
+pub apart : true ≡ false → ⊥
 apart e =
     let z : _≡_ {A = ℕ} 0 1 = cc in
     omega arith

@@ -44,14 +44,16 @@ fn small(blk: &[u32], at: usize, n: usize, most: u32) -> bool
     requires { ⌜ at + n ≤ length (now blk) ⌝ }
     ensures { λ r. ⌜ Tells r (Small (now (blk .entry)) at n most) ⌝ }
 {
+    // no way out of the loop: so several numbers are looked at in one step
+    let mut all = true;
     let mut i: usize = 0;
     while i < n {
         if most < blk[at + i] {
-            return false;
+            all = false;
         }
         i += 1;
     }
-    true
+    all
 }
 
 // The n numbers from `at` on never fall, nor at their join, and the last is not above `most`.
@@ -63,12 +65,17 @@ fn climbs(blk: &[u32], at: usize, n: usize, p: usize, rate: u32, most: u32) -> b
     if most < last {
         return false;
     }
+    // no way out of this loop either
+    let mut falls = false;
     let mut i: usize = 1;
     while i < n {
         if blk[at + i] < blk[at + (i - 1)] {
-            return false;
+            falls = true;
         }
         i += 1;
+    }
+    if falls {
+        return false;
     }
     // a difference: the sum at the join could wrap
     let low = blk[at + (n - p)];

@@ -3,7 +3,7 @@ ghost use mathlib.Core.Path.{_≡_};
 ghost use Prim.Native.Nat.{_+_, _<_, _≤_, min};
 ghost use lib.ListN.{length, getD};
 ghost use Rattle.curve.specs.Delay.{delay, slot};
-ghost use Rattle.intake.specs.Due.{curveWith, Seeks, mostDelay};
+ghost use Rattle.intake.specs.Due.{curveWith, Seeks, Begins, mostDelay};
 ghost use Rattle.layout.specs.Over.{over};
 ghost use Rattle.intake.specs.Advance.{Advances, advancedAt};
 ghost use Rattle.intake.specs.Share.{admitted, shareOf, freeOf};
@@ -32,13 +32,13 @@ pub struct Share {
     pub no_room: u32,
 }
 
-// The least number of slots, from 1 on, by which the curve of this table gives `want` packets. The period is in slots, the rate in packets for each period.
-pub fn due(table: &[u32], period: usize, rate: u32, want: u32) -> u32
-    requires { ⌜ Seeks period (curveWith (now table) rate) want ⌝ }
+// The least number of slots, from 1 on, by which the curve of this table gives `want` packets. The period is in slots, the rate in packets for each period. The table's first `start` numbers are known to be below `want`.
+pub fn due(table: &[u32], period: usize, rate: u32, want: u32, start: usize) -> u32
+    requires { ⌜ Seeks period (curveWith (now table) rate) want × Begins (now table) want start ⌝ }
     ensures { λ r. ⌜ (delay period (curveWith (now (table .entry)) rate) want ≡ slot r) × (r ≤ mostDelay) ⌝ }
 {
     let n = table.len();
-    let mut i: usize = 0;
+    let mut i = start;
     'table: while i < n {
         if want <= table[i] {
             return i as u32 + 1;
@@ -62,18 +62,19 @@ fn advance(block: &mut [u32], cur: usize, at: usize, n: usize, period: usize, ra
     requires { ⌜ Advances (now block) cur at n period rate total ⌝ }
     ensures { λ _. ⌜ now (block .exit) ≡ over (now (block .entry)) at (advancedAt (now (block .entry)) cur at n period rate total) ⌝ }
 {
-    // past the table the tail law gives the next number
+    // past the table the tail law gives the number after the last
     let join = block[at + (n - period)] + rate;
+    let end = n - 1;
     let mut j: usize = 0;
-    'numbers: while j < n {
-        let mut next = join;
-        if j + 1 < n {
-            next = block[at + (j + 1)];
-        }
+    'numbers: while j < end {
+        let next = block[at + (j + 1)];
         let own = total + block[cur + j];
         block[at + j] = curve::lesser(next, own);
         j += 1;
     }
+    // the last number stands apart: so the loop asks nothing, and several numbers are made in one step
+    let last = total + block[cur + end];
+    block[at + end] = curve::lesser(join, last);
 }
 
 // Of the offered packets those above the headroom are turned away, then those above the free room.
@@ -113,18 +114,22 @@ fn append(block: &mut [u32], period: usize, done: u32, taken: u32)
     ensures { λ _. ⌜ now (block .exit) ≡ appended (now (block .entry)) period done taken ⌝ }
 {
     let from = SERVICE_AHEAD_AT;
-    let to = from + block[SERVICE_LENGTH_AT] as usize;
+    let length = block[SERVICE_LENGTH_AT];
+    let to = from + length as usize;
     let rate = block[SERVICE_RATE_AT];
     let before = block[TAKEN_AT];
     // how many of the new packets have their deadline
     let mut q: u32 = 0;
+    // deadlines never fall: each look-up begins where the one before it ended
+    let mut start: usize = 0;
     'packets: while q < taken {
         // the packet's number; packets count from 1
         let packet = before + (q + 1);
-        let slots = due(&block[from..to], period, rate, packet);
+        let slots = due(&block[from..to], period, rate, packet, start);
         // its deadline is a slot: those done, and as many more
         let place = DEADLINES_AT + ((packet - 1) % RING) as usize;
         block[place] = done + slots;
+        start = curve::lesser(slots - 1, length) as usize;
         q += 1;
     }
 }

@@ -1,21 +1,28 @@
--- Each turn of the loop looks one packet up in what lies ahead, which the ring leaves alone, and writes its deadline. Assumes nothing.
+-- Each turn of the loop looks one packet up in what lies ahead, which the ring leaves alone, and writes its deadline; the next look-up begins where this one ended. Assumes nothing.
 use mathlib.Core.Path.{_≡_, sym, ap, _∙_}
-use Prim.Native.Nat.{_-_, _≤_}
+use Prim.Native.Nat.{_+_, _-_, _≤_, min}
 use native.Mathlib.Omega.{arith}
-use lib.ListN.{length, length-set}
-use Rattle.intake.specs.Append.{appended, appended-none, appended-more, seeks, ahead-lent}
+use lib.ListN.{length, getD, length-set}
+use Rattle.curve.specs.Delay.{slot, delay}
+use Rattle.layout.specs.Layout.{serviceLengthAt, serviceAheadAt, serviceAhead}
+use Rattle.layout.specs.Part.{part-length}
+use Rattle.intake.specs.Due.{Begins, told-some, begins-after}
+use Rattle.intake.specs.Append.{packet, appended, appended-none, appended-more, seeks, ahead-lent}
 use Rattle.intake.proofs.append.Statement.{statement}
 use Rattle.intake.proofs.append.Tie as tie
 
 abbrev Inv-packets : tie.InvT-packets
-Inv-packets block₀ period done taken from to rate before q₀ block q =
-    (q ≤ taken) × (length block ≡ length block₀) × (block ≡ appended block₀ period done q)
+Inv-packets block₀ period done taken from many to rate before q₀ start₀ block q start =
+    (q ≤ taken)
+    × (length block ≡ length block₀)
+    × (block ≡ appended block₀ period done q)
+    × Begins (serviceAhead block₀ .table) (packet block₀ q) start
 
 abbrev μ-packets : tie.MeasureT-packets
-μ-packets block₀ period done taken from to rate before q₀ block q = taken - q
+μ-packets block₀ period done taken from many to rate before q₀ start₀ block q start = taken - q
 
-slice-read-to : tie.Need-slice-read-to Inv-packets μ-packets
-slice-read-to c = omega arith
+slice-read-length : tie.Need-slice-read-length Inv-packets μ-packets
+slice-read-length c = omega arith
 
 cast-to : tie.Need-cast-to Inv-packets μ-packets
 cast-to c = omega arith
@@ -32,7 +39,7 @@ slice-read-before c = omega arith
 packets-holds : tie.Need-packets-holds Inv-packets μ-packets
 packets-holds c =
     let a = c .before .before .before .before .args in
-    (omega arith, omega arith, sym (appended-none (a .block .now) (a .period) (a .done)))
+    (omega arith, omega arith, sym (appended-none (a .block .now) (a .period) (a .done)), (omega arith, λ j h. absurd (omega arith)))
 
 add-packet : tie.Need-add-packet Inv-packets μ-packets
 add-packet c = omega arith
@@ -58,7 +65,19 @@ due-requires c κs =
     let s = w .before .before .before .before .before in
     let a = s .args in
     rw (ahead-lent (a .block .now) (a .period) (a .done) (s .pre .0) (w .packets .block) (w .packets .q) (w .packets .inv .2))
-    (seeks (a .block .now) (a .period) (a .done) (s .pre .0) (s .pre .1) (w .packets .q) (omega arith))
+    (seeks (a .block .now) (a .period) (a .done) (s .pre .0) (s .pre .1) (w .packets .q) (omega arith), w .packets .inv .3)
+
+-- what the look-up tells of the packet
+told : (c : tie.After-due Inv-packets μ-packets)
+    → delay (c .before .before .before .before .before .before .before .before .before .args .period)
+    (serviceAhead (c .before .before .before .before .before .before .before .before .before .args .block .now))
+    (packet (c .before .before .before .before .before .before .before .before .before .args .block .now) (c .before .before .before .before .packets .q))
+    ≡ slot (c .due .result)
+told c =
+    let w = c .before .before .before .before in
+    let s = w .before .before .before .before .before in
+    let a = s .args in
+    rw (ahead-lent (a .block .now) (a .period) (a .done) (s .pre .0) (w .packets .block) (w .packets .q) (w .packets .inv .2)) at (c .due .ensures .0)
 
 sub-place : tie.Need-sub-place Inv-packets μ-packets
 sub-place c = omega arith
@@ -78,6 +97,17 @@ mul-block c = omega arith
 slice-write-block : tie.Need-slice-write-block Inv-packets μ-packets
 slice-write-block c = omega arith
 
+sub-lesser : tie.Need-sub-lesser Inv-packets μ-packets
+sub-lesser c =
+    let s = c .before .before .before .before .before .before .before .before .before in
+    told-some (s .args .period) (serviceAhead (s .args .block .now)) (s .pre .0 .service-ahead) _ (c .due .result) (told c)
+
+lesser-requires : tie.Need-lesser-requires Inv-packets μ-packets
+lesser-requires c κs = tt
+
+cast-start : tie.Need-cast-start Inv-packets μ-packets
+cast-start c = omega arith
+
 add-q : tie.Need-add-q Inv-packets μ-packets
 add-q c = omega arith
 
@@ -86,13 +116,22 @@ packets-less c = omega arith
 
 packets-again : tie.Need-packets-again Inv-packets μ-packets
 packets-again c =
-    let w = c .before .before .before .before in
+    let d = c .before in
+    let w = d .before .before .before .before in
     let s = w .before .before .before .before .before in
     let a = s .args in
-    let f = rw (ahead-lent (a .block .now) (a .period) (a .done) (s .pre .0) (w .packets .block) (w .packets .q) (w .packets .inv .2)) at (c .due .ensures .0) in (
+    let b = a .block .now in
+    let q = w .packets .q in
+    let n : getD b serviceLengthAt 0 ≤ 64 = s .pre .0 .numbers .service-short in
+    let size : length b ≡ 752 = s .pre .0 .size in
+    let least : c .lesser .result ≡ min (d .due .result - 1) (getD b serviceLengthAt 0) = c .lesser .ensures in (
       omega arith,
       simp length-set (w .packets .inv .1),
-      appended-more (a .block .now) (a .period) (a .done) (w .packets .block) (w .packets .q) (c .due .result) (w .packets .inv .2) f,
+      appended-more b (a .period) (a .done) (w .packets .block) q (d .due .result) (w .packets .inv .2) (told d),
+      begins-after (a .period) (serviceAhead b) (s .pre .0 .service-ahead) (packet b q) (d .due .result) (told d) (packet b (q + 1)) (c .lesser .result)
+          (omega arith)
+          (omega (arith, least))
+          (omega (arith, least, part-length b serviceAheadAt (getD b serviceLengthAt 0) (omega arith))),
     )
 
 same-length : tie.Need-same-length Inv-packets μ-packets
@@ -111,7 +150,7 @@ append-spec =
     (tie.spec
     Inv-packets
     μ-packets
-    slice-read-to
+    slice-read-length
     cast-to
     add-to
     slice-read-rate
@@ -130,6 +169,9 @@ append-spec =
     add-block
     mul-block
     slice-write-block
+    sub-lesser
+    lesser-requires
+    cast-start
     add-q
     packets-less
     packets-again

@@ -13,20 +13,20 @@ use Rattle.intake.proofs.due.Statement.{statement}
 use Rattle.intake.proofs.due.Tie as tie
 
 abbrev Inv-table : tie.InvT-table
-Inv-table table period rate want n i₀ i = (i ≤ n) × ((j : ℕ) → j < i → getD table j 0 < want)
+Inv-table table period rate want start n i₀ i = (i ≤ n) × ((j : ℕ) → j < i → getD table j 0 < want)
 
 abbrev μ-table : tie.MeasureT-table
-μ-table table period rate want n i₀ i = n - i
+μ-table table period rate want start n i₀ i = n - i
 
 abbrev Inv-period : tie.InvT-period
-Inv-period table period rate want n i gap periods up k₀ k =
+Inv-period table period rate want start n i gap periods up k₀ k =
     Periods (curveWith table rate) want periods
     × (length table ≤ k + period)
     × (k < length table)
     × ((j : ℕ) → length table ≤ j + period → j < k → getD table j 0 + up < want)
 
 abbrev μ-period : tie.MeasureT-period
-μ-period table period rate want n i gap periods up k₀ k = n - k
+μ-period table period rate want start n i gap periods up k₀ k = n - k
 
 abbrev Begin : Type 0
 Begin = tie.Start Inv-table μ-table Inv-period μ-period
@@ -39,7 +39,7 @@ short : (c : tie.After-table Inv-table μ-table Inv-period μ-period)
     → getD (now (c .before .before .args .table)) (length (now (c .before .before .args .table)) - 1) 0 < c .before .before .args .want
 short c =
     let s = c .before .before in
-    c .before .table .inv .1 (length (now (s .args .table)) - 1) (omega (arith, s .pre .curve .period, s .pre .curve .long))
+    c .before .table .inv .1 (length (now (s .args .table)) - 1) (omega (arith, s .pre .0 .curve .period, s .pre .0 .curve .long))
 
 -- the periods that the program computes
 enough : (c : tie.After-table Inv-table μ-table Inv-period μ-period)
@@ -47,10 +47,10 @@ enough : (c : tie.After-table Inv-table μ-table Inv-period μ-period)
     ((c .before .before .args .want - getD (now (c .before .before .args .table)) (length (now (c .before .before .args .table)) - 1) 0 + (c .before .before .args .rate - 1)) / c .before .before .args .rate)
 enough c =
     let s = c .before .before in
-    periods (curve s) (s .args .want) (s .pre .promises) (short c)
+    periods (curve s) (s .args .want) (s .pre .0 .promises) (short c)
 
 table-holds : tie.Need-table-holds Inv-table μ-table Inv-period μ-period
-table-holds c = (omega arith, λ j l. absurd (omega arith))
+table-holds c = c .pre .1
 
 mul-if1 : tie.Need-mul-if1 Inv-table μ-table Inv-period μ-period
 mul-if1 c = omega arith
@@ -68,7 +68,7 @@ returns : tie.Need-returns Inv-table μ-table Inv-period μ-period
 returns c =
     let w = c .before .before .before in
     let s = w .before in (
-      delay-is (s .args .period) (curve s) (s .pre .curve) (s .args .want) _
+      delay-is (s .args .period) (curve s) (s .pre .0 .curve) (s .args .want) _
           (first-in (s .args .period) (curve s) (s .args .want) (w .table .i) (omega arith) (c .if1 .taken) (w .table .inv .1)),
       omega arith,
     )
@@ -83,13 +83,13 @@ table-again : tie.Need-table-again Inv-table μ-table Inv-period μ-period
 table-again c = (omega arith, below-more _ _ (c .before .before .before .table .inv .1) (c .if1 .left))
 
 sub-gap : tie.Need-sub-gap Inv-table μ-table Inv-period μ-period
-sub-gap c = omega (arith, c .before .before .pre .curve .period, c .before .before .pre .curve .long)
+sub-gap c = omega (arith, c .before .before .pre .0 .curve .period, c .before .before .pre .0 .curve .long)
 
 mul-gap : tie.Need-mul-gap Inv-table μ-table Inv-period μ-period
 mul-gap c = omega arith
 
 shared-slice-read-gap : tie.Need-shared-slice-read-gap Inv-table μ-table Inv-period μ-period
-shared-slice-read-gap c = omega (arith, c .before .before .before .pre .curve .period, c .before .before .before .pre .curve .long)
+shared-slice-read-gap c = omega (arith, c .before .before .before .pre .0 .curve .period, c .before .before .before .pre .0 .curve .long)
 
 sub-gap-2 : tie.Need-sub-gap-2 Inv-table μ-table Inv-period μ-period
 sub-gap-2 c = omega (arith, short (c .before))
@@ -107,13 +107,13 @@ mul-up : tie.Need-mul-up Inv-table μ-table Inv-period μ-period
 mul-up c = omega (arith, enough (c .before) .down)
 
 sub-k : tie.Need-sub-k Inv-table μ-table Inv-period μ-period
-sub-k c = omega (arith, c .before .before .before .pre .curve .long)
+sub-k c = omega (arith, c .before .before .before .pre .0 .curve .long)
 
 period-holds : tie.Need-period-holds Inv-table μ-table Inv-period μ-period
 period-holds c =
     let s = c .before .before .before in
-    let p = s .pre .curve .period in
-    let l = s .pre .curve .long in
+    let p = s .pre .0 .curve .period in
+    let l = s .pre .0 .curve .long in
     (enough (c .before), omega arith, omega arith, λ j m h. absurd (omega arith))
 
 mul-if2 : tie.Need-mul-if2 Inv-table μ-table Inv-period μ-period
@@ -125,7 +125,7 @@ shared-slice-read-if2 c = omega arith
 add-if2 : tie.Need-add-if2 Inv-table μ-table Inv-period μ-period
 add-if2 c =
     let s = c .before .before .before .before .before in
-    omega (arith, c .before .period .inv .0 .down, s .pre .small (c .before .period .k) (c .before .period .inv .2))
+    omega (arith, c .before .period .inv .0 .down, s .pre .0 .small (c .before .period .k) (c .before .period .inv .2))
 
 add-k : tie.Need-add-k Inv-table μ-table Inv-period μ-period
 add-k c = omega arith
@@ -149,7 +149,7 @@ carried : (c : tie.Else2 Inv-table μ-table Inv-period μ-period)
     ≤ 64001000 * 16
 carried c =
     let s = c .before .before .before .before .before .before in
-    mul-le-mul {n₂ = 64001000} (omega (arith, c .before .before .period .inv .0 .few)) (s .pre .few)
+    mul-le-mul {n₂ = 64001000} (omega (arith, c .before .before .period .inv .0 .few)) (s .pre .0 .few)
 
 cast-result-2 : tie.Need-cast-result-2 Inv-table μ-table Inv-period μ-period
 cast-result-2 c = omega arith
@@ -170,8 +170,8 @@ returns-2 : tie.Need-returns-2 Inv-table μ-table Inv-period μ-period
 returns-2 c =
     let w = c .before .before in
     let s = w .before .before .before .before in (
-      delay-is (s .args .period) (curve s) (s .pre .curve) (s .args .want) _
-          (first-past (s .args .period) (curve s) (s .pre .curve) (s .args .want) _ (w .period .k) (w .period .inv .0) (w .period .inv .1) (w .period .inv .2) (c .if2 .left) (w .period .inv .3)),
+      delay-is (s .args .period) (curve s) (s .pre .0 .curve) (s .args .want) _
+          (first-past (s .args .period) (curve s) (s .pre .0 .curve) (s .args .want) _ (w .period .k) (w .period .inv .0) (w .period .inv .1) (w .period .inv .2) (c .if2 .left) (w .period .inv .3)),
       omega (arith, carried c),
     )
 
