@@ -11,5 +11,7 @@ pub mod Verdict
 pub mod Ready
 pub mod OneVerdict
 pub mod Share
+pub mod Window
+pub mod Held
 pub mod Steps
 pub mod Figured

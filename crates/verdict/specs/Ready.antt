@@ -77,10 +77,7 @@ module _ (P : ℕ) (rest : List ℕ) (s : Session) (d : Drawn P rest s) where
   pub envelope-sized : Sized P (tableIn rest (s .envelope))
   envelope-sized = rw (envelope-in rest s (d .lies)) (sized P (sessionOf rest .envelope) (d .made .envelope) (d .few))
 
-  -- and their values are the session's
-  pub service-at : (x : ℕ) → at P (tableIn rest (s .service)) x ≡ at P (sessionOf rest .service) x
-  service-at x = ap (λ F. at P F x) (service-in rest s (d .lies))
-
+  -- and the envelope's values are the session's
   pub envelope-at : (x : ℕ) → at P (tableIn rest (s .envelope)) x ≡ at P (sessionOf rest .envelope) x
   envelope-at x = ap (λ F. at P F x) (envelope-in rest s (d .lies))
 

@@ -3,10 +3,10 @@ ghost use mathlib.Core.Path.{_≡_};
 ghost use Prim.Native.Nat.{ℕ, _+_, _*_, _-_, _<_, _≤_, min};
 ghost use lib.ListN.{length, getD};
 ghost use Rattle.curve.specs.Least.{least};
-ghost use Rattle.curve.specs.Lookup.{farthest};
+ghost use Rattle.curve.specs.Lookup.{curveOf, Sized, farthest};
 ghost use Rattle.sheet.specs.Refusal.{none};
 ghost use Rattle.sheet.specs.Bytes.{sessionOf};
-ghost use Rattle.verdict.specs.Share.{better};
+ghost use Rattle.verdict.specs.Window.{Rowed, Window};
 ghost use Rattle.verdict.specs.Figure.{figure};
 ghost use Rattle.verdict.specs.Ready.{Ready, Drawn};
 ghost use Rattle.verdict.specs.Verdict.{told, Says, Figures, Judges};
@@ -20,6 +20,10 @@ use sheet::limits::LONGEST_TABLE;
 const WALK_END: u32 = 131216;
 // Past this slot count no two tables of a session reach, so the loads bend.
 const BOTH_TABLES: u32 = 128;
+// How many values of a curve stand in a window: those that a slot count needs, 65, and room for 63 slot counts more.
+const WINDOW: u32 = 128;
+// A window that ends here or later begins at the end of the longest table.
+const PAST_TABLES: u32 = 191;
 
 pub enum Verdict {
     // The slack, and the least slot count that gives it.
@@ -36,23 +40,73 @@ pub struct Answer {
     pub figures: [Slots; 16],
 }
 
-// The better of two ways to share t slots: x of them for the envelope, or x of them for the service.
-fn tried(rest: &[u8], s: Session, period: Slots, t: Slots, x: Slots) -> Packets
-    requires { ⌜ Drawn (period .0) (now rest) s × (x .0 ≤ t .0) × (t .0 < farthest) ⌝ }
-    ensures { λ r. ⌜ r .0 ≡ better (period .0) (sessionOf (now (rest .entry)) .envelope) (sessionOf (now (rest .entry)) .service) (t .0) (x .0) ⌝ }
+// How far two slot counts are apart.
+fn apart(a: u32, b: u32) -> u32
+    ensures { λ r. ⌜ r ≡ (a - b) + (b - a) ⌝ }
 {
-    let a = s.service.from;
-    let b = s.service.to;
-    let rate = s.service.rate;
-    let d = s.envelope.from;
-    let e = s.envelope.to;
-    let other = s.envelope.rate;
-    let left = Slots(t.0 - x.0);
-    let one = curve::value(&rest[d..e], period, other, x).0
-        + curve::value(&rest[a..b], period, rate, left).0;
-    let two = curve::value(&rest[d..e], period, other, left).0
-        + curve::value(&rest[a..b], period, rate, x).0;
-    Packets(curve::lesser(one, two))
+    if a < b { b - a } else { a - b }
+}
+
+// How many values of a row are looked up: all while the tables reach into it, else those of one period.
+fn looked(end: u32, p: u32) -> u32
+    requires { ⌜ p ≤ 16 ⌝ }
+    ensures { λ r. ⌜ (p ≤ r) × (r ≤ 128) × (r < 128 → 191 ≤ end) ⌝ }
+{
+    if end < PAST_TABLES {
+        return WINDOW;
+    }
+    p
+}
+
+// Writes the values of one curve at `WINDOW` slot counts, from a place on: those at end, end - 1, .., or at 0, 1, .. if `end` is 0. Past the tables a value is the one a period later, less the rate, so that nothing is divided.
+fn row(table: &[u8], period: Slots, rate: Packets, end: u32, place: usize, values: &mut [u32; 4096])
+    requires { ⌜ Sized (period .0) (curveOf (now table) (rate .0)) × (end < farthest) × (place + 128 ≤ 4096) × (length (now values) ≡ 4096) ⌝ }
+    ensures { λ _. ⌜ Rowed (period .0) (curveOf (now (table .entry)) (rate .0)) end place 128 (now (values .entry)) (now (values .exit)) ⌝ }
+{
+    let p = period.0;
+    let r = rate.0;
+    let near = looked(end, p);
+    let mut j: u32 = 0;
+    'near: while j < near {
+        let y = apart(end, j);
+        values[place + j as usize] = curve::value(table, period, rate, Slots(y)).0;
+        j += 1;
+    }
+    'far: while j < WINDOW {
+        let here = place + j as usize;
+        values[here] = values[here - p as usize] - r;
+        j += 1;
+    }
+}
+
+// Writes the values of all sessions: session i has 256 places from 256·i on, the first half for its envelope and the second for its service.
+fn window(
+    bytes: &[u8],
+    starts: [usize; 16],
+    count: usize,
+    c: Packets,
+    period: Slots,
+    end: u32,
+    values: &mut [u32; 4096],
+)
+    requires { ⌜ Ready (now bytes) starts count (c .0) (period .0) × (end < farthest) × (length (now values) ≡ 4096) ⌝ }
+    ensures { λ _. ⌜ Window (now (bytes .entry)) (period .0) end (256 * count) (now (values .exit)) ⌝ }
+{
+    let mut i: usize = 0;
+    while i < count {
+        let at = starts[i];
+        let rest = &bytes[at..];
+        let s = sheet::sessions::fields(rest);
+        let a = s.service.from;
+        let b = s.service.to;
+        let rate = s.service.rate;
+        let d = s.envelope.from;
+        let e = s.envelope.to;
+        let other = s.envelope.rate;
+        row(&rest[d..e], period, other, end, 256 * i, values);
+        row(&rest[a..b], period, rate, end, 256 * i + 128, values);
+        i += 1;
+    }
 }
 
 // The least of some numbers.
@@ -76,6 +130,12 @@ fn search(bytes: &[u8], starts: [usize; 16], count: usize, c: Packets, period: S
 {
     let p = period.0;
     let each = c.0;
+    // The values at 0, 1, .. and those at end, end - 1, ..: x goes up in both, so that the positions take numbers that stand side by side.
+    let mut firsts = [0u32; 4096];
+    window(bytes, starts, count, c, period, 0, &mut firsts);
+    let mut recent = [0u32; 4096];
+    let mut end: u32 = 0;
+    let mut tries = [0u32; 65];
     let mut loads = [0u32; 16];
     let mut slack = each + 1;
     let mut first: u32 = 0;
@@ -86,20 +146,25 @@ fn search(bytes: &[u8], starts: [usize; 16], count: usize, c: Packets, period: S
             break 'slots 0;
         }
         let top = curve::lesser(t, LONGEST_TABLE);
+        if end < t {
+            end = t + (WINDOW - 1) - top;
+            window(bytes, starts, count, c, period, end, &mut recent);
+        }
+        let last = top as usize;
+        let ahead = (end - t) as usize;
         let mut load: u32 = 0;
         let mut i: usize = 0;
         'sessions: while i < count {
-            let at = starts[i];
-            let rest = &bytes[at..];
-            let s = sheet::sessions::fields(rest);
-            let mut tries = [0u32; 65];
-            let mut x: u32 = 0;
-            'positions: while x <= top {
-                let share = tried(rest, s, period, Slots(t), Slots(x));
-                tries[x as usize] = share.0;
+            let mut x: usize = 0;
+            'positions: while x <= last {
+                let here = 256 * i + x;
+                let back = here + ahead;
+                let one = firsts[here] + recent[back + 128];
+                let two = recent[back] + firsts[here + 128];
+                tries[x] = curve::lesser(one, two);
                 x += 1;
             }
-            load += least_of(&tries[..x as usize]);
+            load += least_of(&tries[..x]);
             i += 1;
         }
         let most = each * t;

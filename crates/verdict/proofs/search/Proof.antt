@@ -6,62 +6,107 @@ use native.Mathlib.Omega.{arith}
 use borrow.Author.Needs.{needs}
 use lib.ListN.{length-take}
 use Rattle.verdict.specs.Walk.{kept-more}
-use Rattle.verdict.specs.Ready.{start-inside, rest-fits, rest-drawn}
+use Rattle.verdict.specs.Held.{seen-none, seen-next, one-small, two-small, try-is}
 use Rattle.verdict.specs.Steps.{shares-none, shares-more, part-none, part-small, says-passed, says-failed, walking-none}
 use Rattle.verdict.proofs.search.Statement.{statement}
 use Rattle.verdict.proofs.search.Tie as tie
-use Rattle.verdict.proofs.search.Proof.Places.{Inv-positions, μ-positions, Inv-sessions, μ-sessions, Inv-slots, μ-slots, bounds, small, top-is, load-next, start, L, t, sum-is, at-sessions, slots, each, P, lead-next, past-is, steady-next, found}
+use Rattle.verdict.proofs.search.Proof.Places.{Inv-positions, μ-positions, Inv-sessions, μ-sessions, Inv-slots, μ-slots, bounds, small, held, at-most, top-is, load-next, start, L, t, sum-is, at-sessions, slots, each, P, lead-next, past-is, steady-next, found}
+
+window-requires : tie.Need-window-requires Inv-positions μ-positions Inv-sessions μ-sessions Inv-slots μ-slots
+window-requires c κs = (c .before .before .pre, omega arith, refl)
 
 add-slack : tie.Need-add-slack Inv-positions μ-positions Inv-sessions μ-sessions Inv-slots μ-slots
-add-slack c = omega (arith, bounds (c .before))
+add-slack c = omega (arith, bounds (c .before .before .before))
 
 slots-holds : tie.Need-slots-holds Inv-positions μ-positions Inv-sessions μ-sessions Inv-slots μ-slots
-slots-holds c = walking-none _ _ _ _ _ (bounds (c .before) .0) (omega arith) refl
+slots-holds c = (walking-none _ _ _ _ _ (bounds (c .before .before .before) .0) (omega arith) refl, seen-none _ _ _ 1 _ _ _ (c .window .ensures) refl refl)
 
 lesser-requires : tie.Need-lesser-requires Inv-positions μ-positions Inv-sessions μ-sessions Inv-slots μ-slots
 lesser-requires c κs = search needs
 
+add-end : tie.Need-add-end Inv-positions μ-positions Inv-sessions μ-sessions Inv-slots μ-slots
+add-end c = omega (arith, c .before .before .before .slots .inv .0 .to)
+
+sub-end : tie.Need-sub-end Inv-positions μ-positions Inv-sessions μ-sessions Inv-slots μ-slots
+sub-end c = omega (arith, top-is (c .before))
+
+sub-end-2 : tie.Need-sub-end-2 Inv-positions μ-positions Inv-sessions μ-sessions Inv-slots μ-slots
+sub-end-2 c = omega (arith, top-is (c .before))
+
+window-requires-2 : tie.Need-window-requires-2 Inv-positions μ-positions Inv-sessions μ-sessions Inv-slots μ-slots
+window-requires-2 c κs = (c .before .before .before .before .before .before .before .before .pre, omega (arith, c .before .before .before .before .slots .inv .0 .to, top-is (c .before .before)), c .before .before .before .before .slots .inv .1 .places)
+
+cast-last : tie.Need-cast-last Inv-positions μ-positions Inv-sessions μ-sessions Inv-slots μ-slots
+cast-last c = omega (arith, top-is (c .before))
+
+sub-ahead : tie.Need-sub-ahead Inv-positions μ-positions Inv-sessions μ-sessions Inv-slots μ-slots
+sub-ahead c = held (c .before) .ahead
+
+cast-ahead : tie.Need-cast-ahead Inv-positions μ-positions Inv-sessions μ-sessions Inv-slots μ-slots
+cast-ahead c = omega (arith, held (c .before) .near)
+
 sessions-holds : tie.Need-sessions-holds Inv-positions μ-positions Inv-sessions μ-sessions Inv-slots μ-slots
-sessions-holds c = (zero-le, sym (part-none _ _ _))
-
-mul-at : tie.Need-mul-at Inv-positions μ-positions Inv-sessions μ-sessions Inv-slots μ-slots
-mul-at c = omega (arith, c .sessions-test .taken, bounds (c .before .before .before .before .before .before))
-
-array-read-at : tie.Need-array-read-at Inv-positions μ-positions Inv-sessions μ-sessions Inv-slots μ-slots
-array-read-at c = omega (arith, c .sessions-test .taken, bounds (c .before .before .before .before .before .before))
-
-sub-rest : tie.Need-sub-rest Inv-positions μ-positions Inv-sessions μ-sessions Inv-slots μ-slots
-sub-rest c = start-inside _ _ _ _ _ (c .before .before .before .before .before .before .pre) (c .before .sessions .i) (c .sessions-test .taken)
-
-part-rest-start : tie.Need-part-rest-start Inv-positions μ-positions Inv-sessions μ-sessions Inv-slots μ-slots
-part-rest-start c = start-inside _ _ _ _ _ (c .before .before .before .before .before .before .pre) (c .before .sessions .i) (c .sessions-test .taken)
-
-part-rest-end : tie.Need-part-rest-end Inv-positions μ-positions Inv-sessions μ-sessions Inv-slots μ-slots
-part-rest-end c = search needs
-
-fields-requires : tie.Need-fields-requires Inv-positions μ-positions Inv-sessions μ-sessions Inv-slots μ-slots
-fields-requires c κs = rest-fits _ _ _ _ _ (c .before .before .before .before .before .before .before .pre) (c .before .before .sessions .i) (c .before .sessions-test .taken)
+sessions-holds c = (zero-le, sym (part-none _ _ _), c .before .before .before .before .slots .inv .1 .long)
 
 positions-holds : tie.Need-positions-holds Inv-positions μ-positions Inv-sessions μ-sessions Inv-slots μ-slots
-positions-holds c = (zero-le, shares-none _ _ _ _ refl)
+positions-holds c = (zero-le, shares-none _ _ _ _ (c .before .sessions .inv .2))
 
-tried-requires : tie.Need-tried-requires Inv-positions μ-positions Inv-sessions μ-sessions Inv-slots μ-slots
-tried-requires c κs =
-    let in-sessions = c .before .before .before .before in
-    let f = c .before .before .fields in
-    (rest-drawn _ _ _ _ _ (c .before .before .before .before .before .before .before .before .before .before .pre) (in-sessions .before .sessions .i) (in-sessions .sessions-test .taken) (f .result) (f .ensures), omega (arith, c .positions-test .taken, top-is (c .before .before .before .before .before .before)), omega (arith, c .before .before .before .before .before .before .before .before .slots .inv .to))
+mul-here : tie.Need-mul-here Inv-positions μ-positions Inv-sessions μ-sessions Inv-slots μ-slots
+mul-here c = omega (arith, at-most c)
 
-cast-tries : tie.Need-cast-tries Inv-positions μ-positions Inv-sessions μ-sessions Inv-slots μ-slots
-cast-tries c = omega (arith, c .before .positions-test .taken, top-is (c .before .before .before .before .before .before .before))
+add-here : tie.Need-add-here Inv-positions μ-positions Inv-sessions μ-sessions Inv-slots μ-slots
+add-here c = omega (arith, at-most c)
+
+add-back : tie.Need-add-back Inv-positions μ-positions Inv-sessions μ-sessions Inv-slots μ-slots
+add-back c = omega (arith, at-most c)
+
+mul-one : tie.Need-mul-one Inv-positions μ-positions Inv-sessions μ-sessions Inv-slots μ-slots
+mul-one c = omega (arith, at-most c)
+
+array-read-one : tie.Need-array-read-one Inv-positions μ-positions Inv-sessions μ-sessions Inv-slots μ-slots
+array-read-one c = omega (arith, at-most c)
+
+add-one : tie.Need-add-one Inv-positions μ-positions Inv-sessions μ-sessions Inv-slots μ-slots
+add-one c = omega (arith, at-most c)
+
+mul-one-2 : tie.Need-mul-one-2 Inv-positions μ-positions Inv-sessions μ-sessions Inv-slots μ-slots
+mul-one-2 c = omega (arith, at-most c)
+
+array-read-one-2 : tie.Need-array-read-one-2 Inv-positions μ-positions Inv-sessions μ-sessions Inv-slots μ-slots
+array-read-one-2 c = omega (arith, at-most c)
+
+add-one-2 : tie.Need-add-one-2 Inv-positions μ-positions Inv-sessions μ-sessions Inv-slots μ-slots
+add-one-2 c = omega (arith, one-small _ _ _ _ _ (c .before .before .before .before .before .before .before .before .before .before .before .before .pre) _ _ _ _ _ _ (c .before .before .before .before .before .before .before .before .slots .inv .1 .first) (held (c .before .before .before .before .before)) (at-most c .0) (at-most c .2), c .before .before .before .before .before .before .before .before .slots .inv .0 .to)
+
+mul-two : tie.Need-mul-two Inv-positions μ-positions Inv-sessions μ-sessions Inv-slots μ-slots
+mul-two c = omega (arith, at-most c)
+
+array-read-two : tie.Need-array-read-two Inv-positions μ-positions Inv-sessions μ-sessions Inv-slots μ-slots
+array-read-two c = omega (arith, at-most c)
+
+add-two : tie.Need-add-two Inv-positions μ-positions Inv-sessions μ-sessions Inv-slots μ-slots
+add-two c = omega (arith, at-most c)
+
+mul-two-2 : tie.Need-mul-two-2 Inv-positions μ-positions Inv-sessions μ-sessions Inv-slots μ-slots
+mul-two-2 c = omega (arith, at-most c)
+
+array-read-two-2 : tie.Need-array-read-two-2 Inv-positions μ-positions Inv-sessions μ-sessions Inv-slots μ-slots
+array-read-two-2 c = omega (arith, at-most c)
+
+add-two-2 : tie.Need-add-two-2 Inv-positions μ-positions Inv-sessions μ-sessions Inv-slots μ-slots
+add-two-2 c = omega (arith, two-small _ _ _ _ _ (c .before .before .before .before .before .before .before .before .before .before .before .before .pre) _ _ _ _ _ _ (c .before .before .before .before .before .before .before .before .slots .inv .1 .first) (held (c .before .before .before .before .before)) (at-most c .0) (at-most c .2), c .before .before .before .before .before .before .before .before .slots .inv .0 .to)
+
+lesser-requires-2 : tie.Need-lesser-requires-2 Inv-positions μ-positions Inv-sessions μ-sessions Inv-slots μ-slots
+lesser-requires-2 c κs = search needs
 
 mul-tries : tie.Need-mul-tries Inv-positions μ-positions Inv-sessions μ-sessions Inv-slots μ-slots
-mul-tries c = omega (arith, c .before .positions-test .taken, top-is (c .before .before .before .before .before .before .before))
+mul-tries c = omega (arith, at-most (c .before))
 
 array-write-tries : tie.Need-array-write-tries Inv-positions μ-positions Inv-sessions μ-sessions Inv-slots μ-slots
-array-write-tries c = omega (arith, c .before .positions-test .taken, top-is (c .before .before .before .before .before .before .before))
+array-write-tries c = omega (arith, at-most (c .before))
 
 add-x : tie.Need-add-x Inv-positions μ-positions Inv-sessions μ-sessions Inv-slots μ-slots
-add-x c = omega (arith, c .before .positions-test .taken, top-is (c .before .before .before .before .before .before .before))
+add-x c = omega (arith, at-most (c .before))
 
 positions-less : tie.Need-positions-less Inv-positions μ-positions Inv-sessions μ-sessions Inv-slots μ-slots
 positions-less c = omega (arith, c .before .positions-test .taken)
@@ -69,10 +114,7 @@ positions-less c = omega (arith, c .before .positions-test .taken)
 positions-again : tie.Need-positions-again Inv-positions μ-positions Inv-sessions μ-sessions Inv-slots μ-slots
 positions-again c =
     let w = c .before .before .positions in
-    (omega (arith, c .before .positions-test .taken), shares-more _ _ _ (w .tries) (w .x) _ (omega (arith, c .before .positions-test .taken, top-is (c .before .before .before .before .before .before .before))) (w .inv .1) (c .tried .ensures))
-
-cast-tries-2 : tie.Need-cast-tries-2 Inv-positions μ-positions Inv-sessions μ-sessions Inv-slots μ-slots
-cast-tries-2 c = omega (arith, c .before .positions .inv .0, c .before .positions .inv .1 .places, top-is (c .before .before .before .before .before .before))
+    (omega (arith, c .before .positions-test .taken), shares-more _ _ _ (w .tries) (w .x) _ (omega (arith, at-most (c .before))) (w .inv .1) (c .lesser2 .ensures ∙ try-is _ _ _ _ _ (c .before .before .before .before .before .before .before .before .before .before .before .before .before .pre) _ _ _ _ _ _ (c .before .before .before .before .before .before .before .before .before .slots .inv .1 .first) (held (c .before .before .before .before .before .before)) (at-most (c .before) .0) (at-most (c .before) .2)))
 
 array-share-prefix-tries : tie.Need-array-share-prefix-tries Inv-positions μ-positions Inv-sessions μ-sessions Inv-slots μ-slots
 array-share-prefix-tries c = omega (arith, c .before .positions .inv .0, c .before .positions .inv .1 .places, top-is (c .before .before .before .before .before .before))
@@ -89,24 +131,23 @@ least-of-requires c κs =
 
 add-load : tie.Need-add-load Inv-positions μ-positions Inv-sessions μ-sessions Inv-slots μ-slots
 add-load c =
-    let s = c .before .before .before .before .before .before .before .before .before .before .before .before in
-    let w = c .before .before .before .before .before .before .before .sessions in
-    omega (arith, load-next c, w .inv .1, part-small _ _ _ _ _ (s .pre) (w .i + 1) (c .before .before .before .before .before .before .before .before .before .before .slots .t) (omega (arith, c .before .before .before .before .before .before .sessions-test .taken)) (omega (arith, c .before .before .before .before .before .before .before .before .before .if1 .left)))
+    let w = c .before .before .before .before .before .sessions in
+    omega (arith, load-next c, w .inv .1, part-small _ _ _ _ _ (c .before .before .before .before .before .before .before .before .before .before .before .before .before .before .pre) (w .i + 1) (c .before .before .before .before .before .before .before .before .before .before .slots .t) (omega (arith, c .before .before .before .before .sessions-test .taken)) (omega (arith, c .before .before .before .before .before .before .before .before .before .if1 .left)))
 
 add-i : tie.Need-add-i Inv-positions μ-positions Inv-sessions μ-sessions Inv-slots μ-slots
-add-i c = omega (arith, c .before .before .before .before .before .before .sessions-test .taken, bounds (c .before .before .before .before .before .before .before .before .before .before .before .before))
+add-i c = omega (arith, c .before .before .before .before .sessions-test .taken, bounds (c .before .before .before .before .before .before .before .before .before .before .before .before .before .before))
 
 sessions-less : tie.Need-sessions-less Inv-positions μ-positions Inv-sessions μ-sessions Inv-slots μ-slots
-sessions-less c = omega (arith, c .before .before .before .before .before .before .sessions-test .taken)
+sessions-less c = omega (arith, c .before .before .before .before .sessions-test .taken)
 
 sessions-again : tie.Need-sessions-again Inv-positions μ-positions Inv-sessions μ-sessions Inv-slots μ-slots
-sessions-again c = (omega (arith, c .before .before .before .before .before .before .sessions-test .taken), ap (λ v. v + c .least-of .result) (c .before .before .before .before .before .before .before .sessions .inv .1) ∙ sym (load-next c))
+sessions-again c = (omega (arith, c .before .before .before .before .sessions-test .taken), ap (λ v. v + c .least-of .result) (c .before .before .before .before .before .sessions .inv .1) ∙ sym (load-next c), c .before .before .before .positions .inv .1 .places)
 
 mul-most : tie.Need-mul-most Inv-positions μ-positions Inv-sessions μ-sessions Inv-slots μ-slots
-mul-most c = omega (arith, small (start c .args .c .0) (t c) (bounds (start c) .3) (c .before .before .before .before .slots .inv .to))
+mul-most c = omega (arith, small (start c .args .c .0) (t c) (bounds (start c) .3) (c .before .before .before .before .before .before .slots .inv .0 .to))
 
 sub-limit : tie.Need-sub-limit Inv-positions μ-positions Inv-sessions μ-sessions Inv-slots μ-slots
-sub-limit c = omega (arith, bounds (start (at-sessions (c .before))), c .if4 .taken)
+sub-limit c = omega (arith, bounds (start (at-sessions (c .before))), c .if5 .taken)
 
 cast-limit : tie.Need-cast-limit Inv-positions μ-positions Inv-sessions μ-sessions Inv-slots μ-slots
 cast-limit c = omega arith
@@ -127,14 +168,14 @@ add-limit c =
     let b = c .before in
     let few = bounds (start (at-sessions b)) in
     let u = t (at-sessions b) - P b in
-    let to = slots b .slots .inv .to in
-    let late = c .if4 .taken in
-    omega (arith, past-is b late, slots b .slots .inv .lead .least u (omega arith) (omega arith), small (each b) u (few .3) (omega arith), small (each b) (P b) (few .3) (omega arith))
+    let to = slots b .slots .inv .0 .to in
+    let late = c .if5 .taken in
+    omega (arith, past-is b late, slots b .slots .inv .0 .lead .least u (omega arith) (omega arith), small (each b) u (few .3) (omega arith), small (each b) (P b) (few .3) (omega arith))
 
 add-steady : tie.Need-add-steady Inv-positions μ-positions Inv-sessions μ-sessions Inv-slots μ-slots
 add-steady c =
     let b = c .before .before in
-    omega (arith, slots b .slots .inv .short, bounds (start (at-sessions b)))
+    omega (arith, slots b .slots .inv .0 .short, bounds (start (at-sessions b)))
 
 cast-loads : tie.Need-cast-loads Inv-positions μ-positions Inv-sessions μ-sessions Inv-slots μ-slots
 cast-loads c = omega arith
@@ -146,31 +187,33 @@ array-write-loads : tie.Need-array-write-loads Inv-positions μ-positions Inv-se
 array-write-loads c = omega arith
 
 add-t : tie.Need-add-t Inv-positions μ-positions Inv-sessions μ-sessions Inv-slots μ-slots
-add-t c = omega (arith, slots (c .before) .slots .inv .to)
+add-t c = omega (arith, slots (c .before) .slots .inv .0 .to)
 
 slots-less : tie.Need-slots-less Inv-positions μ-positions Inv-sessions μ-sessions Inv-slots μ-slots
-slots-less c = omega (arith, c .before .before .before .before .before .before .if1 .left)
+slots-less c = omega (arith, c .before .before .before .before .before .before .before .before .if1 .left)
 
 slots-again : tie.Need-slots-again Inv-positions μ-positions Inv-sessions μ-sessions Inv-slots μ-slots
 slots-again c =
     let b = c .before in
     let a = at-sessions b in
     let w = slots b .slots in
-    let r = steady-next c in
-    record {
-      from = omega arith;
-      to = omega (arith, c .before .before .before .before .before .before .if1 .left);
-      short = r .0;
-      lead = lead-next b;
-      row = r .1;
-      kept = rw (← sum-is a) (kept-more (L a) (t a) (w .loads) (w .inv .kept));
-    }
+    let r = steady-next c in (
+      record {
+        from = omega arith;
+        to = omega (arith, c .before .before .before .before .before .before .before .before .if1 .left);
+        short = r .0;
+        lead = lead-next b;
+        row = r .1;
+        kept = rw (← sum-is a) (kept-more (L a) (t a) (w .loads) (w .inv .0 .kept));
+      },
+      seen-next _ _ _ _ _ _ _ _ (w .inv .1 .first) (held (c .before .before .before .before .before .before)) (a .before .sessions .inv .2),
+    )
 
 returns : tie.Need-returns Inv-positions μ-positions Inv-sessions μ-sessions Inv-slots μ-slots
-returns c = says-passed _ _ _ _ _ (c .before .before .before .before .pre) _ _ (found (c .before) .none (c .if7 .taken))
+returns c = says-passed _ _ _ _ _ (c .before .before .before .before .before .before .pre) _ _ (found (c .before) .none (c .if8 .taken))
 
 returns-2 : tie.Need-returns-2 Inv-positions μ-positions Inv-sessions μ-sessions Inv-slots μ-slots
-returns-2 c = says-failed _ _ _ _ _ (c .before .before .before .before .pre) _ (found (c .before) .some (c .if7 .left))
+returns-2 c = says-failed _ _ _ _ _ (c .before .before .before .before .before .before .pre) _ (found (c .before) .some (c .if8 .left))
 
 pub search-spec : {M : Type 1} → statement M
 search-spec =
@@ -182,25 +225,40 @@ search-spec =
     μ-sessions
     Inv-slots
     μ-slots
+    window-requires
     add-slack
     slots-holds
     lesser-requires
+    sub-end
+    add-end
+    sub-end-2
+    window-requires-2
+    cast-last
+    sub-ahead
+    cast-ahead
     sessions-holds
-    mul-at
-    array-read-at
-    sub-rest
-    part-rest-start
-    part-rest-end
-    fields-requires
     positions-holds
-    tried-requires
-    cast-tries
+    mul-here
+    add-here
+    add-back
+    mul-one
+    array-read-one
+    add-one
+    mul-one-2
+    array-read-one-2
+    add-one-2
+    mul-two
+    array-read-two
+    add-two
+    mul-two-2
+    array-read-two-2
+    add-two-2
+    lesser-requires-2
     mul-tries
     array-write-tries
     add-x
     positions-less
     positions-again
-    cast-tries-2
     array-share-prefix-tries
     slice-aggregate-least-of
     least-of-requires
