@@ -6,7 +6,7 @@ ghost use Rattle.curve.specs.Least.{least};
 ghost use Rattle.curve.specs.Lookup.{curveOf, Sized, farthest};
 ghost use Rattle.sheet.specs.Refusal.{none};
 ghost use Rattle.sheet.specs.Bytes.{sessionOf};
-ghost use Rattle.verdict.specs.Window.{Rowed, Window};
+ghost use Rattle.verdict.specs.Window.{rowPlaces, sessionPlaces, windowPlaces, pastTables, Rowed, Window};
 ghost use Rattle.verdict.specs.Figure.{figure};
 ghost use Rattle.verdict.specs.Ready.{Ready, Drawn};
 ghost use Rattle.verdict.specs.Verdict.{told, Says, Figures, Judges};
@@ -22,6 +22,13 @@ const WALK_END: u32 = 131216;
 const BOTH_TABLES: u32 = 128;
 // How many values of a curve stand in a window: those that a slot count needs, 65, and room for 63 slot counts more.
 const WINDOW: u32 = 128;
+// The same as places of a row; a session has two rows, and sixteen sessions fill a window.
+const ROW_PLACES: usize = 128;
+
+const SESSION_PLACES: usize = 256;
+
+const WINDOW_PLACES: usize = 4096;
+
 // A window that ends here or later begins at the end of the longest table.
 const PAST_TABLES: u32 = 191;
 
@@ -50,7 +57,7 @@ fn apart(a: u32, b: u32) -> u32
 // How many values of a row are looked up: all while the tables reach into it, else those of one period.
 fn looked(end: u32, p: u32) -> u32
     requires { ⌜ p ≤ 16 ⌝ }
-    ensures { λ r. ⌜ (p ≤ r) × (r ≤ 128) × (r < 128 → 191 ≤ end) ⌝ }
+    ensures { λ r. ⌜ (p ≤ r) × (r ≤ rowPlaces) × (r < rowPlaces → pastTables ≤ end) ⌝ }
 {
     if end < PAST_TABLES {
         return WINDOW;
@@ -59,9 +66,16 @@ fn looked(end: u32, p: u32) -> u32
 }
 
 // Writes the values of one curve at `WINDOW` slot counts, from a place on: those at end, end - 1, .., or at 0, 1, .. if `end` is 0. Past the tables a value is the one a period later, less the rate, so that nothing is divided.
-fn row(table: &[u8], period: Slots, rate: Packets, end: u32, place: usize, values: &mut [u32; 4096])
-    requires { ⌜ Sized (period .0) (curveOf (now table) (rate .0)) × (end < farthest) × (place + 128 ≤ 4096) × (length (now values) ≡ 4096) ⌝ }
-    ensures { λ _. ⌜ Rowed (period .0) (curveOf (now (table .entry)) (rate .0)) end place 128 (now (values .entry)) (now (values .exit)) ⌝ }
+fn row(
+    table: &[u8],
+    period: Slots,
+    rate: Packets,
+    end: u32,
+    place: usize,
+    values: &mut [u32; WINDOW_PLACES],
+)
+    requires { ⌜ Sized (period .0) (curveOf (now table) (rate .0)) × (end < farthest) × (place + rowPlaces ≤ windowPlaces) × (length (now values) ≡ windowPlaces) ⌝ }
+    ensures { λ _. ⌜ Rowed (period .0) (curveOf (now (table .entry)) (rate .0)) end place rowPlaces (now (values .entry)) (now (values .exit)) ⌝ }
 {
     let p = period.0;
     let r = rate.0;
@@ -87,10 +101,10 @@ fn window(
     c: Packets,
     period: Slots,
     end: u32,
-    values: &mut [u32; 4096],
+    values: &mut [u32; WINDOW_PLACES],
 )
-    requires { ⌜ Ready (now bytes) starts count (c .0) (period .0) × (end < farthest) × (length (now values) ≡ 4096) ⌝ }
-    ensures { λ _. ⌜ Window (now (bytes .entry)) (period .0) end (256 * count) (now (values .exit)) ⌝ }
+    requires { ⌜ Ready (now bytes) starts count (c .0) (period .0) × (end < farthest) × (length (now values) ≡ windowPlaces) ⌝ }
+    ensures { λ _. ⌜ Window (now (bytes .entry)) (period .0) end (sessionPlaces * count) (now (values .exit)) ⌝ }
 {
     let mut i: usize = 0;
     while i < count {
@@ -103,8 +117,15 @@ fn window(
         let d = s.envelope.from;
         let e = s.envelope.to;
         let other = s.envelope.rate;
-        row(&rest[d..e], period, other, end, 256 * i, values);
-        row(&rest[a..b], period, rate, end, 256 * i + 128, values);
+        row(&rest[d..e], period, other, end, SESSION_PLACES * i, values);
+        row(
+            &rest[a..b],
+            period,
+            rate,
+            end,
+            SESSION_PLACES * i + ROW_PLACES,
+            values,
+        );
         i += 1;
     }
 }
@@ -131,9 +152,9 @@ fn search(bytes: &[u8], starts: [usize; 16], count: usize, c: Packets, period: S
     let p = period.0;
     let each = c.0;
     // The values at 0, 1, .. and those at end, end - 1, ..: x goes up in both, so that the positions take numbers that stand side by side.
-    let mut firsts = [0u32; 4096];
+    let mut firsts = [0u32; WINDOW_PLACES];
     window(bytes, starts, count, c, period, 0, &mut firsts);
-    let mut recent = [0u32; 4096];
+    let mut recent = [0u32; WINDOW_PLACES];
     let mut end: u32 = 0;
     let mut tries = [0u32; 65];
     let mut loads = [0u32; 16];
@@ -157,10 +178,10 @@ fn search(bytes: &[u8], starts: [usize; 16], count: usize, c: Packets, period: S
         'sessions: while i < count {
             let mut x: usize = 0;
             'positions: while x <= last {
-                let here = 256 * i + x;
+                let here = SESSION_PLACES * i + x;
                 let back = here + ahead;
-                let one = firsts[here] + recent[back + 128];
-                let two = recent[back] + firsts[here + 128];
+                let one = firsts[here] + recent[back + ROW_PLACES];
+                let two = recent[back] + firsts[here + ROW_PLACES];
                 tries[x] = curve::lesser(one, two);
                 x += 1;
             }
