@@ -1,6 +1,10 @@
 // Slices of numbers: filled, copied, compared and written out.
-ghost use Prim.Native.Nat.{_≤_};
-ghost use lib.ListN.{length};
+ghost use mathlib.Core.Path.{_≡_};
+ghost use mathlib.Core.List.{_++_};
+ghost use Prim.Native.Nat.{_≤_, min};
+ghost use lib.ListN.{length, take, drop, replicate};
+ghost use Rattle.guard.specs.Tells.{Tells};
+ghost use Rattle.slots.specs.Same.{SameFrom};
 ghost use Rattle.io.specs.Counts.{Counts};
 use crate::settings::exactly;
 use text::number;
@@ -16,7 +20,9 @@ pub fn lent(numbers: &[u32], n: usize) -> usize
     text::at_most(n, numbers.len())
 }
 
-pub fn fill(numbers: &mut [u32], value: u32) {
+pub fn fill(numbers: &mut [u32], value: u32)
+    ensures { λ _. ⌜ now (numbers .exit) ≡ replicate (length (now (numbers .entry))) value ⌝ }
+{
     let mut i: usize = 0;
     while i < numbers.len() {
         numbers[i] = value;
@@ -25,7 +31,9 @@ pub fn fill(numbers: &mut [u32], value: u32) {
 }
 
 // Copies what there is room for.
-pub fn copy(from: &[u32], to: &mut [u32]) {
+pub fn copy(from: &[u32], to: &mut [u32])
+    ensures { λ _. ⌜ now (to .exit) ≡ take (min (length (now (from .entry))) (length (now (to .entry)))) (now (from .entry)) ++ drop (min (length (now (from .entry))) (length (now (to .entry)))) (now (to .entry)) ⌝ }
+{
     let n = text::at_most(from.len(), to.len());
     let mut i: usize = 0;
     while i < n {
@@ -35,7 +43,9 @@ pub fn copy(from: &[u32], to: &mut [u32]) {
 }
 
 // Are two slices of one length the same from a place on?
-pub fn same_from(a: &[u32], b: &[u32], from: usize) -> bool {
+pub fn same_from(a: &[u32], b: &[u32], from: usize) -> bool
+    ensures { λ r. ⌜ Tells r (SameFrom (now (a .entry)) (now (b .entry)) from) ⌝ }
+{
     if a.len() != b.len() {
         return false;
     }

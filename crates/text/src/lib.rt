@@ -1,5 +1,6 @@
 // What the programs that take text share: a text's lines and a line's words, the bytes and the numbers written in a line, and the printing of answers.
-ghost use Prim.Native.Nat.{_≤_};
+ghost use mathlib.Core.Path.{_≡_};
+ghost use Prim.Native.Nat.{_≤_, min};
 ghost use lib.ListN.{length};
 ghost use Rattle.io.specs.Counts.{Counts};
 
@@ -24,7 +25,7 @@ pub fn find(text: &[u8], from: usize, mark: u8) -> usize
 
 // A number that was read may be any; this is as much of it as there is room for.
 pub fn at_most(n: usize, room: usize) -> usize
-    ensures { λ r. ⌜ (r ≤ n) × (r ≤ room) ⌝ }
+    ensures { λ r. ⌜ (r ≤ n) × (r ≤ room) × (r ≡ min n room) ⌝ }
 {
     if n < room { n } else { room }
 }

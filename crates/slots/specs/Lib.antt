@@ -1,0 +1,2 @@
+-- What the program's slices are compared for.
+pub mod Same
