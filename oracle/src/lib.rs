@@ -7,6 +7,7 @@ pub mod damage;
 pub mod draft;
 pub mod examples;
 pub mod gen;
+pub mod inputs;
 pub mod offers;
 pub mod rng;
 pub mod run;
@@ -16,6 +17,7 @@ pub mod sheet;
 pub mod stream;
 pub mod tally;
 pub mod verdict;
+pub mod words;
 
 /// A number of slots, or the number of a slot.
 pub type Slots = u64;

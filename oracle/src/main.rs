@@ -1,5 +1,6 @@
-//! `slotrun` reads a sheet and slots from standard input and prints the run. With the argument
-//! `read` or `verdict` the input is one sheet, and only its reading or its verdict is printed.
+//! `slotrun` reads a sheet and slots from standard input and prints the run, and on standard error
+//! why it was refused. With the argument `read` or `verdict` the input is one sheet, and only its
+//! reading or its verdict is printed.
 
 use oracle::run::MOST_SLOTS;
 use oracle::stream::{read_line, slotrun, verdict_line};
@@ -9,8 +10,9 @@ fn main() -> io::Result<()> {
     let mut input = BufReader::new(io::stdin().lock());
     let mut output = BufWriter::new(io::stdout().lock());
     let argument = std::env::args().nth(1);
+    let mut words = String::new();
     match argument.as_deref() {
-        None => slotrun(&mut input, &mut output, MOST_SLOTS)?,
+        None => words = slotrun(&mut input, &mut output, MOST_SLOTS)?,
         Some("read") => {
             let bytes = all_bytes(&mut input)?;
             writeln!(output, "{}", read_line(&bytes))?;
@@ -24,7 +26,8 @@ fn main() -> io::Result<()> {
             std::process::exit(2);
         }
     }
-    output.flush()
+    output.flush()?;
+    io::stderr().write_all(words.as_bytes())
 }
 
 fn all_bytes(input: &mut dyn Read) -> io::Result<Vec<u8>> {

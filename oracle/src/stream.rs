@@ -1,32 +1,36 @@
 //! The program `slotrun` over any input and output: a sheet, then M bytes a slot, and the
-//! print-out of the verdict, the packets sent and the tally.
+//! print-out of the verdict, the packets sent and the tally; and its words on a refusal.
 
 use crate::run::Run;
-use crate::sheet::{read, LONGEST_REST};
+use crate::sheet::{read, Refusal, LONGEST_REST};
 use crate::tally::Tally;
 use crate::verdict::{verdict, Line};
+use crate::words::words;
 use crate::Slots;
 use std::io::{self, Read, Write};
 
-/// Runs the whole stream. `most_slots` is the number of slots after which 17 is given.
-pub fn slotrun(input: &mut dyn Read, output: &mut dyn Write, most_slots: Slots) -> io::Result<()> {
+/// Runs the whole stream and answers the words for standard error: the line that tells of a
+/// refusal, or nothing. `most_slots` is the number of slots after which 17 is given.
+pub fn slotrun(
+    input: &mut dyn Read,
+    output: &mut dyn Write,
+    most_slots: Slots,
+) -> io::Result<String> {
     let bytes = sheet_bytes(input)?;
-    match Run::open_with_most_slots(&bytes, most_slots) {
-        Err(refusal) => writeln!(output, "{refusal}"),
-        Ok(run) => {
-            let sessions = run.sheet().sessions.len();
-            writeln!(
-                output,
-                "{}",
-                Line {
-                    answer: verdict(&bytes),
-                    sessions
-                }
-            )?;
-            let tally = all_slots(run, input, output)?;
-            writeln!(output, "{tally}")
+    let refusal = match Run::open_with_most_slots(&bytes, most_slots) {
+        Err(refusal) => {
+            writeln!(output, "{refusal}")?;
+            Some(refusal)
         }
-    }
+        Ok(run) => {
+            let (answer, sessions) = (verdict(&bytes), run.sheet().sessions.len());
+            writeln!(output, "{}", Line { answer, sessions })?;
+            let (tally, refusal) = all_slots(run, input, output)?;
+            writeln!(output, "{tally}")?;
+            refusal
+        }
+    };
+    Ok(refusal.map_or(String::new(), |one| words(&bytes, one)))
 }
 
 /// The bytes of the sheet: four and as many more as they say, though never more than the
@@ -47,7 +51,11 @@ fn up_to(input: &mut dyn Read, count: usize) -> io::Result<Vec<u8>> {
 }
 
 /// Slot after slot until the stream ends, is cut, or a slot is refused.
-fn all_slots(mut run: Run, input: &mut dyn Read, output: &mut dyn Write) -> io::Result<Tally> {
+fn all_slots(
+    mut run: Run,
+    input: &mut dyn Read,
+    output: &mut dyn Write,
+) -> io::Result<(Tally, Option<Refusal>)> {
     let sessions = run.sheet().sessions.len();
     let mut outcomes = vec![0; 3 * sessions];
     let mut sent = vec![0; 3 * run.sheet().capacity as usize];
@@ -64,7 +72,7 @@ fn all_slots(mut run: Run, input: &mut dyn Read, output: &mut dyn Write) -> io::
         match run.slot(&offers, &mut outcomes, &mut sent, &mut tally) {
             Err(refusal) => {
                 writeln!(output, "{refusal}")?;
-                break;
+                return Ok((tally, Some(refusal)));
             }
             Ok(count) => {
                 for three in sent.chunks_exact(3).take(count) {
@@ -74,7 +82,7 @@ fn all_slots(mut run: Run, input: &mut dyn Read, output: &mut dyn Write) -> io::
             }
         }
     }
-    Ok(tally)
+    Ok((tally, None))
 }
 
 /// One sheet read, as a line: `read C P M: s1 .. sM` with the sessions' starts, or the refusal.

@@ -1,3 +1,4 @@
--- What the lines of the print-out are, and what it is to put text into the page.
+-- What the lines of the print-out are, what the turns of the loop hand on, and what it is to move bytes to a block's front.
 pub mod Text
-pub mod Put
+pub mod Turns
+pub mod Moved

@@ -1,8 +1,12 @@
-// Standard input in two sorts of pieces: the sheet, whose length is told in its first bytes, and blocks of whole slots.
-ghost use Prim.Native.Nat.{_≤_};
+// Standard input in two sorts of pieces: the sheet, whose length is told in its first bytes, and blocks of slots.
+ghost use mathlib.Core.Path.{_≡_};
+ghost use Prim.Native.Nat.{_-_, _<_, _≤_};
 ghost use lib.ListN.{length};
-ghost use Rattle.io.specs.Counts.{Counts};
-use libc::STDIN_FILENO;
+ghost use Rattle.console.specs.Got.{Within};
+ghost use Rattle.slotrun.specs.Moved.{Moved};
+use console::input::Got;
+use console::input::read_full;
+use console::input::read_some;
 use sheet::limits::LENGTH_BYTES;
 use sheet::limits::MOST_FOLLOWING;
 
@@ -16,25 +20,49 @@ pub const BLOCK_BYTES: usize = 65536;
 
 // Reads a sheet: its length, and as many bytes as that says, but no more than the longest sheet has. Fewer come where the stream ends early; the
 // reader of sheets refuses those.
-pub fn read_sheet(bytes: &mut [u8]) -> usize
+pub fn read_sheet(bytes: &mut [u8]) -> Got
     requires { ⌜ 4216 ≤ length (now bytes) ⌝ }
-    ensures { λ r. ⌜ Counts r (now (bytes .exit)) ⌝ }
+    ensures { λ r. ⌜ Within 0 4216 r ⌝ }
 {
-    let first = io::read_full(STDIN_FILENO, &mut bytes[..LENGTH_BYTES]);
-    if first < LENGTH_BYTES {
-        return first;
+    let got = read_full(&mut bytes[..LENGTH_BYTES], 0);
+    match got {
+        Got::Bytes(n) => {
+            if n < LENGTH_BYTES {
+                return Got::Bytes(n);
+            }
+            let following = curve::lesser(words::long(bytes, 0), MOST_FOLLOWING);
+            let end = LENGTH_BYTES + following as usize;
+            read_full(&mut bytes[..end], LENGTH_BYTES)
+        }
+        Got::End => Got::End,
+        Got::Failed => Got::Failed,
     }
-    let following = curve::lesser(words::long(bytes, 0), MOST_FOLLOWING);
-    let end = LENGTH_BYTES + following as usize;
-    let more = io::read_full(STDIN_FILENO, &mut bytes[LENGTH_BYTES..end]);
-    LENGTH_BYTES + more
 }
 
-// Reads the next block of slots of `count` bytes each; fewer bytes come only where the stream ends.
-pub fn read_block(block: &mut [u8], count: usize) -> usize
-    requires { ⌜ (count ≤ 16) × (65536 ≤ length (now block)) ⌝ }
-    ensures { λ r. ⌜ Counts r (now (block .exit)) ⌝ }
+// Reads on in a block that holds the first bytes of an unfinished slot, of `count` bytes, until something comes; the bytes that the block then holds.
+pub fn read_block(block: &mut [u8], held: usize, count: usize) -> Got
+    requires { ⌜ (held < count) × (count ≤ 16) × (length (now block) ≡ 65536) ⌝ }
+    ensures { λ r. ⌜ Within 1 65536 r ⌝ }
 {
-    let wanted = count * BLOCK_SLOTS;
-    io::read_full(STDIN_FILENO, &mut block[..wanted])
+    let end = count * BLOCK_SLOTS;
+    let got = read_some(&mut block[held..end]);
+    match got {
+        Got::Bytes(n) => Got::Bytes(held + n),
+        Got::End => Got::End,
+        Got::Failed => Got::Failed,
+    }
+}
+
+// Moves the bytes from `from` to `to`, an unfinished slot, to the front of the block, and answers how many they are.
+pub fn keep_rest(block: &mut [u8], from: usize, to: usize) -> usize
+    requires { ⌜ (from ≤ to) × (to ≤ length (now block)) ⌝ }
+    ensures { λ r. ⌜ (r ≡ to - from) × Moved (now (block .entry)) from r (now (block .exit)) ⌝ }
+{
+    let mut i: usize = 0;
+    while i < to - from {
+        let b = block[from + i];
+        block[i] = b;
+        i += 1;
+    }
+    i
 }

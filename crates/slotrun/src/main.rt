@@ -2,30 +2,35 @@
 //
 // A sheet that can't be run gives the one line "refused N PLACE". An unfinished last slot is dropped, and "cut" is printed before the total. A
 // refused slot prints its refusal and the total, and ends the run. The sheet, the run, a block of slots and a page of text are all that is held.
+// Why something is refused, or what fails, is told in words on standard error.
 ghost use Prim.Native.Nat.{_≤_};
 
 mod input;
 mod lines;
-mod page;
 mod slots;
 
+use console::arguments;
+use console::input::Got;
+use console::output;
+use console::output::Filled;
+use console::output::LINE_BYTES;
+use console::output::PAGE_BYTES;
+use console::put;
 use layout::RUN_NUMBERS;
-use libc::STDERR_FILENO;
 use opening::Opening;
-use page::Filled;
-use page::PAGE_BYTES;
 use sheet::Outcome;
 use verdict::Verdict;
 
-// The one line of a sheet that can't be run.
-fn refuse(number: u32, place: u32) -> Filled {
-    let mut page = [0u8; PAGE_BYTES];
-    let used = lines::put_refused(&mut page, 0, number, place);
-    page::write_out(&page, Filled { used, lost: false })
+// The one line of a sheet that can't be run, and why.
+fn refuse(bytes: &[u8], number: u32, place: u32) {
+    let mut line = [0u8; LINE_BYTES];
+    let used = put::refused(&mut line, 0, number, place);
+    output::write_out(&line, Filled { used, lost: false });
+    reasons::tell(bytes, number, place);
 }
 
 // The print-out of an opened run.
-fn run_opened(bytes: &[u8], run: &mut [u32; RUN_NUMBERS], count: usize) -> Filled
+fn run_opened(bytes: &[u8], run: &mut [u32; RUN_NUMBERS], count: usize)
     requires { ⌜ (1 ≤ count) × (count ≤ 16) ⌝ }
 {
     let mut page = [0u8; PAGE_BYTES];
@@ -34,41 +39,48 @@ fn run_opened(bytes: &[u8], run: &mut [u32; RUN_NUMBERS], count: usize) -> Fille
     let figures = answer.figures;
     let Verdict::Passed(slack, t) = verdict else {
         // A run is opened only on a sheet that passes: this does not arise.
-        return Filled {
-            used: 0,
-            lost: false,
-        };
+        return;
     };
     let used = lines::put_passed(&mut page, 0, slack, t, figures, count);
-    let filled = slots::run_slots(run, count, &mut page, used);
-    page::write_out(&page, filled)
+    let refusal = slots::run_slots(run, count, &mut page, used);
+    if refusal != 0 {
+        reasons::tell(bytes, refusal, 0);
+    }
 }
 
 // The print-out of a sheet of so many sessions that reads.
-fn run_sheet(bytes: &[u8], count: usize) -> Filled
+fn run_sheet(bytes: &[u8], count: usize)
     requires { ⌜ (1 ≤ count) × (count ≤ 16) ⌝ }
 {
     let mut run = [0u32; RUN_NUMBERS];
     match opening::open(bytes, &mut run) {
-        Opening::Refused(number, place) => refuse(number, place),
+        Opening::Refused(number, place) => refuse(bytes, number, place),
         Opening::Opened => run_opened(bytes, &mut run, count),
     }
 }
 
-fn run_stream(bytes: &[u8]) -> Filled {
+fn run_stream(bytes: &[u8]) {
     let reading = sheet::read(bytes);
     let outcome = reading.outcome;
     match outcome {
-        Outcome::Refused(number, place) => refuse(number, place),
+        Outcome::Refused(number, place) => refuse(bytes, number, place),
         Outcome::Read(_, _, m) => run_sheet(bytes, m as usize),
     }
 }
 
 fn main() {
+    if 1 < os::arg_count() {
+        arguments::tell_unknown(
+            1,
+            b" (slotrun takes none; bytes come as '< FILE', hex text as a FILE.hex)\n",
+        );
+        return;
+    }
     let mut bytes = [0u8; input::SHEET_BYTES];
     let got = input::read_sheet(&mut bytes);
-    let filled = run_stream(&bytes[..got]);
-    if filled.lost {
-        io::write_all(STDERR_FILENO, b"slotrun: standard output takes no more\n");
+    match got {
+        Got::Bytes(n) => run_stream(&bytes[..n]),
+        Got::End => {}
+        Got::Failed => os::fail(b"standard input"),
     }
 }

@@ -16,10 +16,15 @@ pub fn printed(bytes: &[u8]) -> String {
     printed_with(bytes, MOST_SLOTS)
 }
 
-pub fn printed_with(mut bytes: &[u8], most_slots: u64) -> String {
+pub fn printed_with(bytes: &[u8], most_slots: u64) -> String {
+    both_with(bytes, most_slots).0
+}
+
+/// What `slotrun` prints for these bytes, and what it tells on standard error.
+pub fn both_with(mut bytes: &[u8], most_slots: u64) -> (String, String) {
     let mut output = Vec::new();
-    slotrun(&mut bytes, &mut output, most_slots).expect("slices don't fail");
-    String::from_utf8(output).expect("plain text")
+    let words = slotrun(&mut bytes, &mut output, most_slots).expect("slices don't fail");
+    (String::from_utf8(output).expect("plain text"), words)
 }
 
 /// One slot with result slices of the right length: the outcomes and the packets sent.

@@ -4,7 +4,8 @@
 //! `compare runs SEED COUNT PROGRAM ..` does the same with scripts for a program that opens runs
 //! and runs their slots: the numbered examples, and COUNT random ones.
 //! `compare streams SEED COUNT PROGRAM ..` hands COUNT random streams, a sheet and its slots, to a
-//! program like `slotrun`, one a call, and holds its print-out to this implementation's.
+//! program like `slotrun`, one a call, and holds its print-out and its words on standard error to
+//! this implementation's.
 //! Where one differs it prints the shortest such sheet, script or stream and ends with status 1.
 
 mod program;

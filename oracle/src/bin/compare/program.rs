@@ -52,7 +52,7 @@ pub fn differences<C: Case>(cases: &[C], program: &[String]) -> io::Result<Vec<D
 }
 
 /// Runs the program on a piece of the cases and holds its lines to the expected ones; the last
-/// case has all lines that are left.
+/// case has all lines that are left. What comes on standard error is passed on.
 fn piece<C: Case>(
     first: usize,
     cases: &[C],
@@ -60,7 +60,8 @@ fn piece<C: Case>(
     program: &[String],
 ) -> io::Result<Vec<Difference>> {
     let written = written(text.as_bytes(), program)?;
-    let mut lines = written.lines();
+    eprint!("{}", written.errors);
+    let mut lines = written.output.lines();
     let mut differences = Vec::new();
     for (n, case) in cases.iter().enumerate() {
         let expected = case.expected();
@@ -83,12 +84,21 @@ fn piece<C: Case>(
     Ok(differences)
 }
 
-/// What the program writes on some bytes.
-pub fn written(bytes: &[u8], program: &[String]) -> io::Result<String> {
+/// What a program writes to standard output and to standard error.
+#[derive(PartialEq, Eq)]
+pub struct Written {
+    pub output: String,
+    pub errors: String,
+}
+
+/// What the program writes on some bytes. Whoever does not compare its standard error passes it
+/// on, so that its troubles are seen.
+pub fn written(bytes: &[u8], program: &[String]) -> io::Result<Written> {
     let mut child = Command::new(&program[0])
         .args(&program[1..])
         .stdin(Stdio::piped())
         .stdout(Stdio::piped())
+        .stderr(Stdio::piped())
         .spawn()?;
     let mut input = child.stdin.take().expect("a piped input");
     let whole = bytes.to_vec();
@@ -99,5 +109,9 @@ pub fn written(bytes: &[u8], program: &[String]) -> io::Result<String> {
         Err(broken) if broken.kind() == io::ErrorKind::BrokenPipe => {}
         other => other?,
     }
-    Ok(String::from_utf8_lossy(&output.stdout).into_owned())
+    let text = |bytes: &[u8]| String::from_utf8_lossy(bytes).into_owned();
+    Ok(Written {
+        output: text(&output.stdout),
+        errors: text(&output.stderr),
+    })
 }

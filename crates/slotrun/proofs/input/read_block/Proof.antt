@@ -1,36 +1,76 @@
--- What is read lies within the block. Assumes nothing.
+-- What is read lies in the block behind what it holds. Assumes nothing.
 use native.Mathlib.Omega.{arith}
-use lib.ListN.{length-append}
-use Rattle.io.proofs.Counting.{front, counts}
 use borrow.Author.Needs.{needs}
 use Rattle.slotrun.proofs.input.read_block.Statement.{statement}
 use Rattle.slotrun.proofs.input.read_block.Tie as tie
 
-mul-wanted : tie.Need-mul-wanted
-mul-wanted c = search needs
+mul-end : tie.Need-mul-end
+mul-end c = search needs
 
-slice-relend-prefix-read-full : tie.Need-slice-relend-prefix-read-full
-slice-relend-prefix-read-full c = search needs
+sub-read-some : tie.Need-sub-read-some
+sub-read-some c = search needs
 
-slice-aggregate-read-full : tie.Need-slice-aggregate-read-full
-slice-aggregate-read-full c = front _ _ (omega arith)
+part-read-some-start : tie.Need-part-read-some-start
+part-read-some-start c = search needs
 
-read-full-requires : tie.Need-read-full-requires
-read-full-requires c κs = search needs
+part-read-some-end : tie.Need-part-read-some-end
+part-read-some-end c = search needs
+
+read-some-requires : tie.Need-read-some-requires
+read-some-requires c κs = search needs
+
+enum-known-got : tie.Need-enum-known-got
+enum-known-got c = search needs
+
+add-t12 : tie.Need-add-t12
+add-t12 c =
+    let read = c .before .before .before .before .before in
+    let some = rw (c .before .got .given .1) at (read .read-some .ensures) in
+    omega (arith, some .1)
+
+enum-told : tie.Need-enum-told
+enum-told c = search needs
+
+enum-told-2 : tie.Need-enum-told-2
+enum-told-2 c = search needs
 
 same-length : tie.Need-same-length
 same-length c = search needs
 
 returns : tie.Need-returns
-returns c = counts _ _ (simp length-append (omega (arith, c .before .before .read-full .ensures .0)))
+returns c =
+    let read = c .before .before .before .before .before in
+    let some = rw (c .before .got .given .1) at (read .read-some .ensures) in
+    (omega (arith, some .0), omega (arith, some .1))
+
+same-length-2 : tie.Need-same-length-2
+same-length-2 c = search needs
+
+returns-2 : tie.Need-returns-2
+returns-2 c = search needs
+
+same-length-3 : tie.Need-same-length-3
+same-length-3 c = search needs
+
+returns-3 : tie.Need-returns-3
+returns-3 c = search needs
 
 pub read-block-spec : {M : Type 1} → statement M
 read-block-spec =
     tie.close
     (tie.spec
-    mul-wanted
-    slice-relend-prefix-read-full
-    slice-aggregate-read-full
-    read-full-requires
+    mul-end
+    sub-read-some
+    part-read-some-start
+    part-read-some-end
+    read-some-requires
+    enum-known-got
+    add-t12
+    enum-told
+    enum-told-2
     same-length
-    returns)
+    returns
+    same-length-2
+    returns-2
+    same-length-3
+    returns-3)

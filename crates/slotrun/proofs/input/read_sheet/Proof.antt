@@ -1,7 +1,8 @@
 -- What is read lies within the bytes lent. Assumes nothing.
+use Prim.Native.Nat.{_+_}
 use native.Mathlib.Omega.{arith}
-use lib.ListN.{length-append}
-use Rattle.io.proofs.Counting.{front, counts}
+use Rattle.io.proofs.Counting.{front}
+use Rattle.console.specs.Got.{within-wider}
 use borrow.Author.Needs.{needs}
 use Rattle.slotrun.proofs.input.read_sheet.Statement.{statement}
 use Rattle.slotrun.proofs.input.read_sheet.Tie as tie
@@ -15,11 +16,14 @@ slice-aggregate-read-full c = front 4 (c .before .before .args .bytes .now) (ome
 read-full-requires : tie.Need-read-full-requires
 read-full-requires c κs = search needs
 
+enum-known-got : tie.Need-enum-known-got
+enum-known-got c = search needs
+
 same-length : tie.Need-same-length
 same-length c = search needs
 
 returns : tie.Need-returns
-returns c = counts _ _ (simp length-append (omega (arith, c .before .before .before .read-full .ensures .0)))
+returns c = search needs
 
 long-requires : tie.Need-long-requires
 long-requires c κs = search needs
@@ -33,26 +37,40 @@ cast-end c = search needs
 add-end : tie.Need-add-end
 add-end c = search needs
 
-sub-read-full : tie.Need-sub-read-full
-sub-read-full c = search needs
+slice-relend-prefix-read-full-2 : tie.Need-slice-relend-prefix-read-full-2
+slice-relend-prefix-read-full-2 c = search needs
 
-part-read-full-start : tie.Need-part-read-full-start
-part-read-full-start c = search needs
-
-part-read-full-end : tie.Need-part-read-full-end
-part-read-full-end c = search needs
+slice-aggregate-read-full-2 : tie.Need-slice-aggregate-read-full-2
+slice-aggregate-read-full-2 c = front _ _ (omega arith)
 
 read-full-requires-2 : tie.Need-read-full-requires-2
-read-full-requires-2 c κs = search needs
+read-full-requires-2 c κs = omega (arith, slice-aggregate-read-full-2 c)
 
-add-result : tie.Need-add-result
-add-result c = search needs
+enum-told : tie.Need-enum-told
+enum-told c = search needs
+
+enum-told-2 : tie.Need-enum-told-2
+enum-told-2 c = search needs
 
 same-length-2 : tie.Need-same-length-2
 same-length-2 c = search needs
 
 returns-2 : tie.Need-returns-2
-returns-2 c = counts _ _ (omega (arith, same-length-2 c, c .before .before .read-full2 .ensures .0))
+returns-2 c =
+    let asked = c .before .before .before in
+    within-wider {least = 4} {most = 4 + asked .before .lesser .result} {low = 0} {high = 4216} (c .before .before .read-full2 .result) (rw (← slice-aggregate-read-full-2 asked) at (c .before .before .read-full2 .ensures)) (omega arith) (omega (arith, asked .before .lesser .ensures))
+
+same-length-3 : tie.Need-same-length-3
+same-length-3 c = search needs
+
+returns-3 : tie.Need-returns-3
+returns-3 c = search needs
+
+same-length-4 : tie.Need-same-length-4
+same-length-4 c = search needs
+
+returns-4 : tie.Need-returns-4
+returns-4 c = search needs
 
 pub read-sheet-spec : {M : Type 1} → statement M
 read-sheet-spec =
@@ -61,16 +79,21 @@ read-sheet-spec =
     slice-relend-prefix-read-full
     slice-aggregate-read-full
     read-full-requires
+    enum-known-got
     same-length
     returns
     long-requires
     lesser-requires
     cast-end
     add-end
-    sub-read-full
-    part-read-full-start
-    part-read-full-end
+    slice-relend-prefix-read-full-2
+    slice-aggregate-read-full-2
     read-full-requires-2
-    add-result
+    enum-told
+    enum-told-2
     same-length-2
-    returns-2)
+    returns-2
+    same-length-3
+    returns-3
+    same-length-4
+    returns-4)

@@ -6,7 +6,7 @@ use native.Mathlib.Omega.{arith}
 use borrow.Author.Needs.{needs}
 use lib.ListN.{length}
 use Rattle.slotrun.specs.Text.{nexts}
-use Rattle.slotrun.specs.Put.{Put, put-none, put-both}
+use Rattle.console.specs.Put.{Put, put-none, put-both}
 use Rattle.slotrun.proofs.lines.put_figures.Statement.{statement}
 use Rattle.slotrun.proofs.lines.put_figures.Tie as tie
 
@@ -26,8 +26,8 @@ mul-figure c = search needs
 array-copy-out-figure : tie.Need-array-copy-out-figure Inv-loop μ-loop
 array-copy-out-figure c = search needs
 
-put-next-requires : tie.Need-put-next-requires Inv-loop μ-loop
-put-next-requires c κs = search needs
+next-requires : tie.Need-next-requires Inv-loop μ-loop
+next-requires c κs = search needs
 
 add-i : tie.Need-add-i Inv-loop μ-loop
 add-i c = search needs
@@ -39,7 +39,7 @@ loop-again : tie.Need-loop-again Inv-loop μ-loop
 unfolding nexts
 loop-again c =
     let w = c .before .before .before .before .before .before in
-    (rw add-one (put-both (w .loop .inv .0) (c .before .before .put-next .ensures .0)), omega arith, omega arith, omega arith)
+    (rw add-one (put-both (w .loop .inv .0) (c .before .before .next .ensures .0)), omega arith, omega arith, omega arith)
 
 same-length : tie.Need-same-length Inv-loop μ-loop
 same-length c = search needs
@@ -61,7 +61,7 @@ put-figures-spec =
     loop-holds
     mul-figure
     array-copy-out-figure
-    put-next-requires
+    next-requires
     add-i
     loop-less
     loop-again
