@@ -73,16 +73,12 @@ pub fn write_out(page: &[u8], filled: Filled) -> Filled
     }
 }
 
-// The page after a line that ends at `used`, with room for the next.
-pub fn after_line(page: &[u8], before: Filled, used: usize) -> Filled
-    requires { ⌜ (used ≤ length (now page)) × (256 ≤ length (now page)) ⌝ }
-    ensures { λ r. ⌜ r .used + 256 ≤ length (now (page .entry)) ⌝ }
+// The page with so much room behind its text: what is in it is written where there is less.
+pub fn make_room(page: &[u8], filled: Filled, room: usize) -> Filled
+    requires { ⌜ (filled .used ≤ length (now page)) × (room ≤ length (now page)) ⌝ }
+    ensures { λ r. ⌜ r .used + room ≤ length (now (page .entry)) ⌝ }
 {
-    let filled = Filled {
-        used,
-        lost: before.lost,
-    };
-    if used <= page.len() - LINE_BYTES {
+    if filled.used <= page.len() - room {
         return filled;
     }
     write_out(page, filled)

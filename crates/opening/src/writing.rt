@@ -109,7 +109,7 @@ pub fn write_run(
     while i < count {
         let at = starts[i];
         let rest = &bytes[at..];
-        let s = sheet::sessions::fields(rest);
+        let s = sheet::fields::fields(rest);
         let from = HEAD_NUMBERS + i * BLOCK_NUMBERS;
         let to = from + BLOCK_NUMBERS;
         write_block(&mut run[from..to], rest, s);

@@ -119,6 +119,10 @@ abbrev number-of : ℕ → Reply → ℕ
 number-of k (sent n) = k
 number-of k (refused number place) = number
 
+abbrev sent-of : Reply → ℕ
+sent-of (sent n) = n
+sent-of (refused number place) = 0
+
 sent-or-refused : (k number place : ℕ) → sent k ≡ refused number place → ⊥
 sent-or-refused k number place e =
     let z = ap (number-of (number + 1)) e in
@@ -144,6 +148,12 @@ module _ (run offers outcomes notes : List ℕ) (tally : Tally) (run′ outcomes
       go (no d) w = absurd (sent-or-refused k _ 0 (sym e ∙ s .refuses d .answers))
       go (yes d) (inl w) = (fit-of run offers (length outcomes) (length notes) (s .why) (s .because) d, w .1, s .fits d _ (w .1))
       go (yes d) (inr w) = absurd (sent-or-refused k 18 0 (sym e ∙ s .too-much d (w .1) .answers))
+
+  -- and then at most 64 packets went
+  pub slots-few : (k : ℕ) → reply ≡ sent k → k ≤ mostCapacity
+  slots-few k e =
+      let d = slots-sent k e in
+      omega (arith, ap sent-of (sym e ∙ d .2 .answers), sendCount-most (takenIn run offers) (countOf run) (capacityOf run), d .0 .opened .capacity)
 
 -- the sending's part of a slot done
 pub runs-by : (run offers outcomes notes taken sent′ outcomes′ notes′ : List ℕ) (k : ℕ) (after : Tally) → taken ≡ takenIn run offers → outcomes′ ≡ outcomesOf run offers outcomes (countOf run)

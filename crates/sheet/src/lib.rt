@@ -7,9 +7,10 @@ use crate::limits::HEAD_BYTES;
 use curve::Packets;
 use curve::Slots;
 
-pub mod head;
+pub mod fields;
+mod head;
 pub mod limits;
-pub mod sessions;
+mod sessions;
 
 // What a sheet's bytes are.
 pub enum Outcome {

@@ -1,4 +1,4 @@
-// Refusals 7 to 10, of a session in the bytes that start with it, and where its curves lie.
+// Refusals 7 to 10, of a session in the bytes that start with it.
 ghost use mathlib.Core.Path.{_≡_};
 ghost use Prim.Native.Nat.{_*_, _/_, _<_, _≤_};
 ghost use lib.ListN.{length};
@@ -9,10 +9,9 @@ ghost use Rattle.sheet.specs.Limits.{longestTable, longestSheet};
 ghost use Rattle.sheet.specs.Bytes.{recordBytes};
 ghost use Rattle.sheet.specs.Reading.{valueLines, tableLines, fieldLines, tablesLines, sessionLines};
 ghost use Rattle.sheet.specs.Clears.{FieldsRead};
-ghost use Rattle.sheet.specs.Told.{fault, SessionIn};
+ghost use Rattle.sheet.specs.Told.{fault};
 use crate::Fault;
-use crate::Session;
-use crate::Table;
+use crate::fields::fields;
 use crate::head::outside;
 use crate::limits::FIXED_BYTES;
 use crate::limits::LARGEST_RATE;
@@ -90,32 +89,6 @@ fn fields_fault(rest: &[u8], period: Slots, place: u32) -> Fault
         return Fault::Found(7, place);
     }
     Fault::Nothing
-}
-
-// Where a session's curves lie in its bytes, and its room; the bytes start with `rest` and are all there.
-pub fn fields(rest: &[u8]) -> Session
-    requires { ⌜ recordBytes (now rest) ≤ length (now rest) ⌝ }
-    ensures { λ r. ⌜ SessionIn (now (rest .entry)) r ⌝ }
-{
-    let from = FIXED_BYTES;
-    let join = from + 2 * words::byte(rest, 0) as usize;
-    let to = join + 2 * words::byte(rest, 1) as usize;
-    let room = words::byte(rest, 2) + 1;
-    let service = Table {
-        from,
-        to: join,
-        rate: Packets(words::word(rest, 3)),
-    };
-    let envelope = Table {
-        from: join,
-        to,
-        rate: Packets(words::word(rest, 5)),
-    };
-    Session {
-        service,
-        envelope,
-        room: Packets(room),
-    }
 }
 
 // Refusal 10 of a session's two tables, whose bytes are all there.

@@ -1,12 +1,16 @@
 // The lines of the print-out. Each is put into the page at a place, and the place after it is answered.
 ghost use Prim.Native.Nat.{_+_, _≤_};
 ghost use lib.ListN.{length};
-ghost use Rattle.slotrun.specs.Text.{nexts, passedLine, packetLine, cutLine, totalLine};
+ghost use Rattle.slotrun.specs.Text.{nexts, passedLine, packetLine, packetLines, totalLine, endText};
+ghost use Rattle.slotrun.specs.Shows.{slotBytes};
 ghost use Rattle.console.specs.Put.{Put};
 use console::put;
 use curve::Packets;
 use curve::Slots;
 use run::tally::Tally;
+
+// A slot sends at most 64 packets, and three numbers are told of each.
+pub const NOTES: usize = 192;
 
 // The figures of the sessions.
 fn put_figures(page: &mut [u8], at: usize, figures: [Slots; 16], count: usize) -> usize
@@ -61,15 +65,26 @@ pub fn put_packet(
     put::end(page, end)
 }
 
-pub fn put_cut(page: &mut [u8], at: usize) -> usize
-    requires { ⌜ at + 256 ≤ length (now page) ⌝ }
-    ensures { λ r. ⌜ Put (now (page .entry)) at cutLine (now (page .exit)) r × (r ≤ at + 256) ⌝ }
+// The lines of the packets that a slot sent; three numbers are told of each.
+pub fn put_packets(page: &mut [u8], at: usize, slot: u32, notes: &[u32; NOTES], sent: u32) -> usize
+    requires { ⌜ (sent ≤ 64) × (at + slotBytes ≤ length (now page)) ⌝ }
+    ensures { λ r. ⌜ Put (now (page .entry)) at (packetLines slot (now (notes .entry)) sent) (now (page .exit)) r × (r ≤ at + slotBytes) ⌝ }
 {
-    put::text(page, at, b"cut\n")
+    let mut end = at;
+    let mut i: u32 = 0;
+    while i < sent {
+        let note = 3 * i as usize;
+        let session = notes[note];
+        let packet = notes[note + 1];
+        let deadline = notes[note + 2];
+        end = put_packet(page, end, slot, session, packet, deadline);
+        i += 1;
+    }
+    end
 }
 
 // The last line: the six totals.
-pub fn put_total(page: &mut [u8], at: usize, tally: Tally) -> usize
+fn put_total(page: &mut [u8], at: usize, tally: Tally) -> usize
     requires { ⌜ at + 256 ≤ length (now page) ⌝ }
     ensures { λ r. ⌜ Put (now (page .entry)) at (totalLine tally) (now (page .exit)) r × (r ≤ at + 256) ⌝ }
 {
@@ -81,4 +96,16 @@ pub fn put_total(page: &mut [u8], at: usize, tally: Tally) -> usize
     end = put::next(page, end, tally.sent);
     end = put::next(page, end, tally.waiting);
     put::end(page, end)
+}
+
+// What ends the print-out, where `held` bytes of an unfinished slot are left.
+pub fn put_ending(page: &mut [u8], at: usize, held: usize, tally: Tally) -> usize
+    requires { ⌜ at + 512 ≤ length (now page) ⌝ }
+    ensures { λ r. ⌜ Put (now (page .entry)) at (endText held tally) (now (page .exit)) r × (r ≤ at + 512) ⌝ }
+{
+    if held == 0 {
+        return put_total(page, at, tally);
+    }
+    let end = put::text(page, at, b"cut\n");
+    put_total(page, end, tally)
 }

@@ -2,10 +2,13 @@
 ghost use mathlib.Core.Path.{_≡_};
 ghost use Prim.Native.Nat.{_+_, _<_, _≤_};
 ghost use lib.ListN.{length};
+ghost use Rattle.slotrun.specs.Text.{fromZero};
+ghost use Rattle.slotrun.specs.Shows.{slotBytes, Shows};
 ghost use Rattle.slotrun.specs.Turns.{Ready, Goes};
 use crate::input;
 use crate::input::BLOCK_BYTES;
 use crate::lines;
+use crate::lines::NOTES;
 use console::input::Got;
 use console::output;
 use console::output::Filled;
@@ -18,12 +21,18 @@ use run::tally::Tally;
 // Every read brings a byte at least, and a run's 1,000,000 slots and one more, which is refused, have no more than these.
 const MOST_READS: usize = 16000016;
 
-// A slot has at most sixteen sessions and sends at most 64 packets; three numbers are told of each.
+// A slot has at most sixteen sessions, and three numbers are told of each.
 const OUTCOMES: usize = 48;
 
-const NOTES: usize = 192;
+// The lines of a slot take no more than this: 64 lines, or a refusal.
+const SLOT_BYTES: usize = 16384;
 
-const MOST_SENT: usize = 64;
+// What a slot came to: where its text ends in the page, the tally, and the number of its refusal, or 0.
+pub struct Printed {
+    pub end: usize,
+    pub tally: Tally,
+    pub refusal: u32,
+}
 
 // How far the page is filled, the tally, and whether the run is over because a slot was refused, with that refusal's number, or text was lost.
 pub struct Progress {
@@ -45,61 +54,67 @@ pub enum Turn {
     Ended(u32),
 }
 
-// The lines of the packets that a slot sent.
-fn print_sent(page: &mut [u8], before: Filled, slot: u32, notes: &[u32; NOTES], sent: u32) -> Filled
-    requires { ⌜ before .used + 256 ≤ length (now page) ⌝ }
-    ensures { λ r. ⌜ r .used + 256 ≤ length (now (page .entry)) ⌝ }
-{
-    let mut filled = before;
-    let mut i: usize = 0;
-    while i < MOST_SENT {
-        if sent as usize <= i {
-            return filled;
-        }
-        let at = 3 * i;
-        let used = lines::put_packet(
-            page,
-            filled.used,
-            slot,
-            notes[at],
-            notes[at + 1],
-            notes[at + 2],
-        );
-        filled = output::after_line(page, filled, used);
-        i += 1;
-    }
-    filled
-}
-
-// Runs a slot, and prints what it sends or its refusal.
-fn run_slot(run: &mut [u32; RUN_NUMBERS], offers: &[u8], page: &mut [u8], p: Progress) -> Progress
-    requires { ⌜ p .filled .used + 256 ≤ length (now page) ⌝ }
-    ensures { λ r. ⌜ r .filled .used + 256 ≤ length (now (page .entry)) ⌝ }
+// Runs a slot, and puts what it sends or its refusal into the page.
+fn run_slot(
+    run: &mut [u32; RUN_NUMBERS],
+    offers: &[u8],
+    before: Tally,
+    page: &mut [u8],
+    at: usize,
+) -> Printed
+    requires { ⌜ at + slotBytes ≤ length (now page) ⌝ }
+    ensures { λ r. ⌜ Shows (now (run .entry)) (now (offers .entry)) before (now (page .entry)) at (now (run .exit)) (now (page .exit)) r ⌝ }
 {
     let mut outcomes = [0u32; OUTCOMES];
     let mut notes = [0u32; NOTES];
-    let slotted = run::slot_by_value(run, offers, &mut outcomes, &mut notes, p.tally);
+    let slotted = run::slot_by_value(run, offers, &mut outcomes, &mut notes, before);
     let tally = slotted.tally;
     let answer = slotted.answer;
     match answer {
         Answer::Sent(sent) => {
-            let filled = print_sent(page, p.filled, run[DONE_AT], &notes, sent);
-            Progress {
-                filled,
+            let end = lines::put_packets(page, at, run[DONE_AT], &notes, sent);
+            Printed {
+                end,
                 tally,
-                over: filled.lost,
                 refusal: 0,
             }
         }
         Answer::Refused(number, place) => {
-            let used = put::refused(page, p.filled.used, number, place);
-            Progress {
-                filled: output::after_line(page, p.filled, used),
+            let end = put::refused(page, at, number, place);
+            Printed {
+                end,
                 tally,
-                over: true,
                 refusal: number,
             }
         }
+    }
+}
+
+// How far a run is after a slot; the page then has room for the next.
+fn after_slot(page: &[u8], printed: Printed, lost: bool) -> Progress
+    requires { ⌜ (printed .end ≤ length (now page)) × (slotBytes ≤ length (now page)) ⌝ }
+    ensures { λ r. ⌜ (r .filled .used + slotBytes ≤ length (now (page .entry))) × (r .tally ≡ printed .tally) × (r .refusal ≡ printed .refusal) ⌝ }
+{
+    let text = Filled {
+        used: printed.end,
+        lost,
+    };
+    let filled = output::make_room(page, text, SLOT_BYTES);
+    let tally = printed.tally;
+    let refusal = printed.refusal;
+    if refusal != 0 {
+        return Progress {
+            filled,
+            tally,
+            over: true,
+            refusal,
+        };
+    }
+    Progress {
+        filled,
+        tally,
+        over: filled.lost,
+        refusal,
     }
 }
 
@@ -111,14 +126,15 @@ fn run_block(
     page: &mut [u8],
     before: Progress,
 ) -> Progress
-    requires { ⌜ (1 ≤ count) × (before .filled .used + 256 ≤ length (now page)) ⌝ }
-    ensures { λ r. ⌜ r .filled .used + 256 ≤ length (now (page .entry)) ⌝ }
+    requires { ⌜ (1 ≤ count) × (before .filled .used + slotBytes ≤ length (now page)) ⌝ }
+    ensures { λ r. ⌜ r .filled .used + slotBytes ≤ length (now (page .entry)) ⌝ }
 {
     let mut p = before;
     let mut at: usize = 0;
     while count <= block.len() - at {
         let end = at + count;
-        p = run_slot(run, &block[at..end], page, p);
+        let printed = run_slot(run, &block[at..end], p.tally, page, p.filled.used);
+        p = after_slot(page, printed, p.filled.lost);
         if p.over {
             return p;
         }
@@ -136,8 +152,8 @@ fn run_some(
     page: &mut [u8],
     before: Progress,
 ) -> Step
-    requires { ⌜ (1 ≤ count) × (n ≤ length (now block)) × (before .filled .used + 256 ≤ length (now page)) ⌝ }
-    ensures { λ r. ⌜ (r .held < count) × (r .progress .filled .used + 256 ≤ length (now (page .entry))) ⌝ }
+    requires { ⌜ (1 ≤ count) × (n ≤ length (now block)) × (before .filled .used + slotBytes ≤ length (now page)) ⌝ }
+    ensures { λ r. ⌜ (r .held < count) × (r .progress .filled .used + slotBytes ≤ length (now (page .entry))) ⌝ }
 {
     let progress = run_block(run, count, &block[..n], page, before);
     let held = input::keep_rest(block, n - n % count, n);
@@ -159,11 +175,11 @@ fn written(page: &[u8], p: Progress) -> Progress
     }
 }
 
-// The total, and with it all that waits in the page.
-fn print_total(page: &mut [u8], p: Progress)
-    requires { ⌜ p .filled .used + 256 ≤ length (now page) ⌝ }
+// The end of the print-out, where the block holds so many bytes of an unfinished slot, and with it all that waits in the page.
+fn print_end(page: &mut [u8], p: Progress, held: usize)
+    requires { ⌜ p .filled .used + 512 ≤ length (now page) ⌝ }
 {
-    let used = lines::put_total(page, p.filled.used, p.tally);
+    let used = lines::put_ending(page, p.filled.used, held, p.tally);
     let filled = Filled {
         used,
         lost: p.filled.lost,
@@ -171,35 +187,14 @@ fn print_total(page: &mut [u8], p: Progress)
     output::write_out(page, filled);
 }
 
-// `cut`, for a last slot that is unfinished, and the total.
-fn print_cut(page: &mut [u8], p: Progress)
-    requires { ⌜ p .filled .used + 256 ≤ length (now page) ⌝ }
-{
-    let used = lines::put_cut(page, p.filled.used);
-    let mut after = p;
-    after.filled = output::after_line(page, p.filled, used);
-    print_total(page, after);
-}
-
-// The end of the stream, where the block holds so many bytes of an unfinished slot.
-fn print_end(page: &mut [u8], p: Progress, held: usize)
-    requires { ⌜ p .filled .used + 256 ≤ length (now page) ⌝ }
-{
-    if held == 0 {
-        print_total(page, p);
-    } else {
-        print_cut(page, p);
-    }
-}
-
 // Goes on after a step, or ends the run where it is over.
 fn go_on(page: &mut [u8], step: Step, count: usize) -> Turn
-    requires { ⌜ (step .held < count) × (step .progress .filled .used + 256 ≤ length (now page)) ⌝ }
+    requires { ⌜ (step .held < count) × (step .progress .filled .used + slotBytes ≤ length (now page)) ⌝ }
     ensures { λ r. ⌜ Goes count (step .progress .filled .used) r ⌝ }
 {
     let p = step.progress;
     if p.over {
-        print_total(page, p);
+        print_end(page, p, 0);
         return Turn::Ended(p.refusal);
     }
     Turn::On(step)
@@ -213,7 +208,7 @@ fn take_turn(
     page: &mut [u8],
     step: Step,
 ) -> Turn
-    requires { ⌜ (count ≤ 16) × (length (now block) ≡ 65536) × (256 ≤ length (now page)) × Ready count (length (now page)) step ⌝ }
+    requires { ⌜ (count ≤ 16) × (length (now block) ≡ 65536) × (slotBytes ≤ length (now page)) × Ready count (length (now page)) step ⌝ }
     ensures { λ r. ⌜ Goes count (length (now (page .entry))) r ⌝ }
 {
     let p = written(page, step.progress);
@@ -240,7 +235,7 @@ fn take_turn(
 
 // Nothing done yet, after a first line.
 fn start(used: usize) -> Step
-    ensures { λ r. ⌜ (r .progress .filled .used ≡ used) × (r .held ≡ 0) ⌝ }
+    ensures { λ r. ⌜ (r .progress .filled .used ≡ used) × (r .held ≡ 0) × (r .progress .tally ≡ fromZero) ⌝ }
 {
     let progress = Progress {
         filled: Filled { used, lost: false },
@@ -261,7 +256,7 @@ fn start(used: usize) -> Step
 // Runs the slots of standard input to its end, and prints what they send and the total. The answer is the number of the refusal that ended the
 // run, or 0.
 pub fn run_slots(run: &mut [u32; RUN_NUMBERS], count: usize, page: &mut [u8], used: usize) -> u32
-    requires { ⌜ (1 ≤ count) × (count ≤ 16) × (256 ≤ length (now page)) × (used ≤ length (now page)) ⌝ }
+    requires { ⌜ (1 ≤ count) × (count ≤ 16) × (slotBytes ≤ length (now page)) × (used ≤ length (now page)) ⌝ }
 {
     let mut block = [0u8; BLOCK_BYTES];
     let mut step = start(used);

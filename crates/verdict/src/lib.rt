@@ -6,6 +6,7 @@ ghost use Rattle.curve.specs.Least.{least};
 ghost use Rattle.curve.specs.Lookup.{curveOf, Sized, farthest};
 ghost use Rattle.sheet.specs.Refusal.{none};
 ghost use Rattle.sheet.specs.Bytes.{sessionOf};
+ghost use Rattle.sheet.specs.Told.{Reads};
 ghost use Rattle.verdict.specs.Window.{rowPlaces, sessionPlaces, windowPlaces, pastTables, Rowed, Window};
 ghost use Rattle.verdict.specs.Figure.{figure};
 ghost use Rattle.verdict.specs.Ready.{Ready, Drawn};
@@ -13,6 +14,7 @@ ghost use Rattle.verdict.specs.Verdict.{told, Says, Figures, Judges};
 use curve::Packets;
 use curve::Slots;
 use sheet::Outcome;
+use sheet::Reading;
 use sheet::Session;
 use sheet::limits::LONGEST_TABLE;
 
@@ -45,6 +47,12 @@ pub struct Answer {
     pub verdict: Verdict,
     // The delay figure of each session, 0 past the last.
     pub figures: [Slots; 16],
+}
+
+pub struct Judged {
+    pub answer: Answer,
+    // The numbers of the link and the places of the sessions, or the refusal.
+    pub reading: Reading,
 }
 
 // How far two slot counts are apart.
@@ -110,7 +118,7 @@ fn window(
     while i < count {
         let at = starts[i];
         let rest = &bytes[at..];
-        let s = sheet::sessions::fields(rest);
+        let s = sheet::fields::fields(rest);
         let a = s.service.from;
         let b = s.service.to;
         let rate = s.service.rate;
@@ -261,29 +269,41 @@ fn all_figures(
     while i < count {
         let at = starts[i];
         let rest = &bytes[at..];
-        figures[i] = figure(rest, sheet::sessions::fields(rest), period);
+        figures[i] = figure(rest, sheet::fields::fields(rest), period);
         i += 1;
     }
     figures
+}
+
+// Judges a sheet, any bytes, any length, and gives beside the answer what the reader said, so that nobody reads twice.
+pub fn judge_read(bytes: &[u8]) -> Judged
+    ensures { λ r. ⌜ Judges (now (bytes .entry)) (r .answer .verdict) (r .answer .figures) × Reads (now (bytes .entry)) (r .reading .outcome) (r .reading .starts) ⌝ }
+{
+    let reading = sheet::read(bytes);
+    let outcome = reading.outcome;
+    let starts = reading.starts;
+    match outcome {
+        Outcome::Refused(number, place) => {
+            let answer = Answer {
+                verdict: Verdict::Unreadable(number, place),
+                figures: [Slots(0); 16],
+            };
+            Judged { answer, reading }
+        }
+        Outcome::Read(c, period, m) => {
+            let count = m as usize;
+            let verdict = search(bytes, starts, count, c, period);
+            let figures = all_figures(bytes, starts, count, c, period);
+            let answer = Answer { verdict, figures };
+            Judged { answer, reading }
+        }
+    }
 }
 
 // Judges a sheet: any bytes, any length.
 pub fn judge(bytes: &[u8]) -> Answer
     ensures { λ r. ⌜ Judges (now (bytes .entry)) (r .verdict) (r .figures) ⌝ }
 {
-    let reading = sheet::read(bytes);
-    let outcome = reading.outcome;
-    let starts = reading.starts;
-    match outcome {
-        Outcome::Refused(number, place) => Answer {
-            verdict: Verdict::Unreadable(number, place),
-            figures: [Slots(0); 16],
-        },
-        Outcome::Read(c, period, m) => {
-            let count = m as usize;
-            let verdict = search(bytes, starts, count, c, period);
-            let figures = all_figures(bytes, starts, count, c, period);
-            Answer { verdict, figures }
-        }
-    }
+    let judged = judge_read(bytes);
+    judged.answer
 }

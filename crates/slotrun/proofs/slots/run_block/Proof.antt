@@ -1,13 +1,15 @@
--- The page keeps room for a line, and what is left of the block falls. Assumes nothing.
+-- The page keeps room for a slot, and what is left of the block falls. Assumes nothing.
+use borrow.Author.Needs.{needs}
 use mathlib.Core.Path.{_≡_}
 use Prim.Native.Nat.{_+_, _-_, _≤_}
-use borrow.Author.Needs.{needs}
+use native.Mathlib.Omega.{arith}
 use lib.ListN.{length}
+use Rattle.slotrun.specs.Shows.{slotBytes}
 use Rattle.slotrun.proofs.slots.run_block.Statement.{statement}
 use Rattle.slotrun.proofs.slots.run_block.Tie as tie
 
 abbrev Inv-loop : tie.InvT-loop
-Inv-loop run₀ count block page₀ p₀ at₀ run page p at = (p .filled .used + 256 ≤ length page₀) × (at ≤ length block) × (length page ≡ length page₀)
+Inv-loop run₀ count block page₀ p₀ at₀ run page p at = (p .filled .used + slotBytes ≤ length page₀) × (at ≤ length block) × (length page ≡ length page₀)
 
 abbrev μ-loop : tie.MeasureT-loop
 μ-loop run₀ count block page₀ p₀ at₀ run page p at = length block - at
@@ -32,6 +34,9 @@ part-run-slot-end c = search needs
 
 run-slot-requires : tie.Need-run-slot-requires Inv-loop μ-loop
 run-slot-requires c κs = search needs
+
+after-slot-requires : tie.Need-after-slot-requires Inv-loop μ-loop
+after-slot-requires c κs = search needs
 
 same-length : tie.Need-same-length Inv-loop μ-loop
 same-length c = search needs
@@ -64,6 +69,7 @@ run-block-spec =
     part-run-slot-start
     part-run-slot-end
     run-slot-requires
+    after-slot-requires
     same-length
     returns
     loop-less

@@ -6,8 +6,8 @@ use Rattle.sheet.specs.Makes.{AllBytes}
 use Rattle.sheet.specs.Tells.{refused-tells}
 use Rattle.verdict.specs.Ready.{Ready, ready-from}
 use Rattle.verdict.specs.Figured.{figures-none}
-use Rattle.verdict.proofs.judge.Statement.{statement}
-use Rattle.verdict.proofs.judge.Tie as tie
+use Rattle.verdict.proofs.judge_read.Statement.{statement}
+use Rattle.verdict.proofs.judge_read.Tie as tie
 
 -- the bytes of a slice are bytes
 all-bytes : (c : tie.After-shared-slice-known) → AllBytes (now (c .before .args .bytes))
@@ -40,13 +40,13 @@ returns : tie.Need-returns
 returns c =
     let bytes = now (c .before .before .before .before .before .before .args .bytes) in
     let e = refused-tells bytes _ _ _ (rw (c .before .outcome .given .1) at (c .before .before .before .before .read .ensures)) in
-    record { says = e; figures-are = figures-none bytes _ _ e }
+    (record { says = e; figures-are = figures-none bytes _ _ e }, c .before .before .before .before .read .ensures)
 
 returns-2 : tie.Need-returns-2
 returns-2 c = search needs
 
-pub judge-spec : {M : Type 1} → statement M
-judge-spec =
+pub judge-read-spec : {M : Type 1} → statement M
+judge-read-spec =
     tie.close
     (tie.spec
     read-requires
