@@ -17,8 +17,9 @@ use Rattle.sheet.specs.Reading.{reading}
 use Rattle.sheet.specs.Makes.{AllBytes, makes}
 use Rattle.verdict.specs.Bends.{Bends, load-bends-past}
 use Rattle.verdict.specs.Figure.{largest, le-largest}
+use Rattle.verdict.specs.Link.{even-gains, even-most}
 use Rattle.verdict.specs.Ready.{made-tables}
-use Rattle.verdict.specs.Verdict.{loadOf, figureOf, figureIn, Case, passed, failed, unreadable, told, Says, Judges}
+use Rattle.verdict.specs.Verdict.{loadOf, canSend, figureOf, figureIn, Case, passed, failed, unreadable, told, Says, Judges}
 use Rattle.verdict.specs.declared.Verdict.{Verdict}
 use Rattle.verdict.specs.declared.Verdict.the-variants.{Passed, Failed, Unreadable}
 use Rattle.rules.specs.Model.{listed}
@@ -34,11 +35,12 @@ unfoldable pub reach : Sheet → ℕ
 reach sheet = largest (tablesOf sheet) (sessionCount sheet)
 
 unfoldable pub caseOf : Sheet → Case
-caseOf sheet = walked (loadOf sheet) (sheet .capacity) (sheet .period) (reach sheet)
+caseOf sheet = walked (loadOf sheet) (canSend (sheet .capacity)) (sheet .period) (reach sheet)
 
-case-tells : (sheet : Sheet) → WellMade sheet → Tells (loadOf sheet) (sheet .capacity) (caseOf sheet)
+case-tells : (sheet : Sheet) → WellMade sheet → Tells (loadOf sheet) (canSend (sheet .capacity)) (caseOf sheet)
 unfolding caseOf reach
-case-tells sheet made = walked-tells (loadOf sheet) (sheet .capacity) (sheet .period) (reach sheet) (made .some-period) few bends
+case-tells sheet made =
+    walked-tells (loadOf sheet) (canSend (sheet .capacity)) _ (sheet .period) (reach sheet) (made .some-period) few bends (even-gains (sheet .capacity) (sheet .period) (reach sheet)) (even-most (sheet .capacity) (reach sheet))
   where
     both : (i : ℕ) → i < sessionCount sheet → tablesOf sheet i ≤ reach sheet
     both i h = le-largest (tablesOf sheet) (sessionCount sheet) i h
@@ -59,7 +61,7 @@ case-says : (bytes : List ℕ) → AllBytes bytes → Says bytes (caseIn (readin
 unfolding caseIn
 case-says bytes all = go (reading bytes) refl
   where
-    read : reading bytes ≡ none → (v : Case) → Tells (loadOf (sheetOf bytes)) (sheetOf bytes .capacity) v → Says bytes v
+    read : reading bytes ≡ none → (v : Case) → Tells (loadOf (sheetOf bytes)) (canSend (sheetOf bytes .capacity)) v → Says bytes v
     read e (passed m w) h = (e, h)
     read e (failed w) h = (e, h)
     read e (unreadable number place) h = absurd h

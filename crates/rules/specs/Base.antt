@@ -5,7 +5,7 @@ use Prim.Native.Nat.{ℕ, _≤_}
 use lib.ListN.{length, getD, take}
 use Rattle.sheet.specs.Sheet.{Sheet, WellMade}
 use Rattle.verdict.specs.Passes.{Passes}
-use Rattle.verdict.specs.Verdict.{loadOf}
+use Rattle.verdict.specs.Verdict.{loadOf, canSend}
 use Rattle.rules.specs.Steps.{steps-take}
 use Rattle.rules.specs.Model.{oneSlot, past, after}
 use Rattle.rules.specs.Curves.{Curves, WithinCapacity, made-curves, passes-within}
@@ -26,6 +26,6 @@ kept-within sheet curves fits history =
     same-kept sheet (offersOf history) (λ u. after sheet (take u history)) (past sheet (offersOf history)) (length history) (after-past sheet history)
     (main-theorem sheet (offersOf history) curves fits (length history))
 
-pub kept : (sheet : Sheet) → WellMade sheet → (slack w : ℕ) → Passes (loadOf sheet) (sheet .capacity) slack w → (history : List (List ℕ))
+pub kept : (sheet : Sheet) → WellMade sheet → (slack w : ℕ) → Passes (loadOf sheet) (canSend (sheet .capacity)) slack w → (history : List (List ℕ))
     → Kept sheet (offersOf history) (λ u. after sheet (take u history)) (length history)
 kept sheet made slack w passes = kept-within sheet (made-curves sheet made) (passes-within sheet slack w passes)

@@ -13,7 +13,7 @@ use Rattle.curve.specs.Delay.{come, Delays, delay-law, delay-from}
 use Rattle.sheet.specs.Sheet.{Sheet, WellMade, session, sessionCount}
 use Rattle.verdict.specs.Load.{load}
 use Rattle.verdict.specs.Passes.{Passes}
-use Rattle.verdict.specs.Verdict.{loadOf}
+use Rattle.verdict.specs.Verdict.{loadOf, canSend}
 use Rattle.rules.specs.Model.{envelopeOf, serviceOf, delayOf}
 
 pub record Curves (sheet : Sheet) : Type 0 where
@@ -27,10 +27,10 @@ made-curves sheet made =
 
 -- 01's inequality 14: for every positive t, the sum of (b*S)(t) over all sessions is at most c·t
 abbrev pub WithinCapacity : Sheet → Type 0
-WithinCapacity sheet = (t : ℕ) → 1 ≤ t → loadOf sheet t ≤ sheet .capacity * t
+WithinCapacity sheet = (t : ℕ) → 1 ≤ t → loadOf sheet t ≤ canSend (sheet .capacity) t
 
 -- it is what the verdict "passed" says, whatever the slack
-pub passes-within : (sheet : Sheet) (slack w : ℕ) → Passes (loadOf sheet) (sheet .capacity) slack w → WithinCapacity sheet
+pub passes-within : (sheet : Sheet) (slack w : ℕ) → Passes (loadOf sheet) (canSend (sheet .capacity)) slack w → WithinCapacity sheet
 passes-within sheet slack w passes t h = omega (arith, passes .least t h)
 
 module _ (sheet : Sheet) where

@@ -5,9 +5,10 @@ pub mod Bends
 pub mod Passes
 pub mod Stop
 pub mod Walk
-pub mod Answer
 pub mod Figure
 pub mod Verdict
+pub mod Link
+pub mod Answer
 pub mod Ready
 pub mod OneVerdict
 pub mod Share

@@ -2,19 +2,19 @@
 use mathlib.Core.Path.{_≡_, refl, sym, ap, _∙_}
 use mathlib.Core.Logic.{_⊎_, inl, inr}
 use mathlib.Core.List.{List}
-use Prim.Native.Nat.{ℕ}
+use Prim.Native.Nat.{ℕ, _≤_}
 use native.Mathlib.Omega.{arith}
 use lib.Seq.{ext-getD}
 use Rattle.curve.specs.declared.Slots.{Slots}
 use Rattle.sheet.specs.Refusal.{Refusal, none, refused}
-use Rattle.sheet.specs.Sheet.{session, sessionCount}
 use Rattle.sheet.specs.Bytes.{sheetOf}
 use Rattle.sheet.specs.Reading.{reading}
 use Rattle.sheet.specs.Makes.{AllBytes, makes}
 use Rattle.verdict.specs.Passes.{Passes, Fails, passed-one, failed-one, not-both}
-use Rattle.verdict.specs.Answer.{some-answer}
+use Rattle.verdict.specs.Answer.{some-answer, fails-by}
+use Rattle.verdict.specs.Link.{walk-end, even}
 use Rattle.verdict.specs.Ready.{made-tables}
-use Rattle.verdict.specs.Verdict.{loadOf, Case, passed, failed, unreadable, told, Says, Judges}
+use Rattle.verdict.specs.Verdict.{loadOf, canSend, Case, passed, failed, unreadable, told, Says, Judges}
 use Rattle.verdict.specs.declared.Verdict.{Verdict}
 use Rattle.verdict.specs.declared.Verdict.the-variants.{Passed, Failed, Unreadable}
 use Rattle.verdict.specs.declared.Answer.{Answer}
@@ -61,14 +61,14 @@ read-refused o n p e f =
 -- of the same bytes only one case holds
 pub one-case : (bytes : List ℕ) (c d : Case) → Says bytes c → Says bytes d → c ≡ d
 one-case bytes (passed m t) (passed n w) f g =
-    let e = passed-one (loadOf (sheetOf bytes)) (sheetOf bytes .capacity) m t n w (f .1) (g .1) in
+    let e = passed-one (loadOf (sheetOf bytes)) (canSend (sheetOf bytes .capacity)) m t n w (f .1) (g .1) in
     λ i. passed (e .0 i) (e .1 i)
-one-case bytes (failed t) (failed w) f g = ap failed (failed-one (loadOf (sheetOf bytes)) (sheetOf bytes .capacity) t w (f .1) (g .1))
+one-case bytes (failed t) (failed w) f g = ap failed (failed-one (loadOf (sheetOf bytes)) (canSend (sheetOf bytes .capacity)) t w (f .1) (g .1))
 one-case bytes (unreadable n p) (unreadable k q) f g =
     let e : refused n p ≡ refused k q = sym f ∙ g in
     cc
-one-case bytes (passed m t) (failed w) f g = absurd (not-both (loadOf (sheetOf bytes)) (sheetOf bytes .capacity) m t w (f .1) (g .1))
-one-case bytes (failed w) (passed m t) f g = absurd (not-both (loadOf (sheetOf bytes)) (sheetOf bytes .capacity) m t w (g .1) (f .1))
+one-case bytes (passed m t) (failed w) f g = absurd (not-both (loadOf (sheetOf bytes)) (canSend (sheetOf bytes .capacity)) m t w (f .1) (g .1))
+one-case bytes (failed w) (passed m t) f g = absurd (not-both (loadOf (sheetOf bytes)) (canSend (sheetOf bytes .capacity)) m t w (g .1) (f .1))
 one-case bytes (passed m t) (unreadable n p) f g = absurd (read-refused (reading bytes) n p (f .0) g)
 one-case bytes (failed w) (unreadable n p) f g = absurd (read-refused (reading bytes) n p (f .0) g)
 one-case bytes (unreadable n p) (passed m t) f g = absurd (read-refused (reading bytes) n p (g .0) f)
@@ -93,15 +93,19 @@ pub some-verdict : (bytes : List ℕ) → AllBytes bytes → (c : Case) × Says 
 some-verdict bytes all = go (reading bytes) refl
   where
     read : (e : reading bytes ≡ none)
-        → ((slack : ℕ) × (w : ℕ) × Passes (loadOf (sheetOf bytes)) (sheetOf bytes .capacity) slack w) ⊎ ((w : ℕ) × Fails (loadOf (sheetOf bytes)) (sheetOf bytes .capacity) w)
+        → ((slack : ℕ) × (w : ℕ) × Passes (loadOf (sheetOf bytes)) (canSend (sheetOf bytes .capacity)) slack w) ⊎ ((w : ℕ) × Fails (loadOf (sheetOf bytes)) (canSend (sheetOf bytes .capacity)) w)
         → (c : Case) × Says bytes c
     read e (inl f) = (passed (f .0) (f .1), (e, f .2))
     read e (inr f) = (failed (f .0), (e, f .1))
 
     go : (o : Refusal) → reading bytes ≡ o → (c : Case) × Says bytes c
     go none e =
-        let sheet = sheetOf bytes in
         let made = makes bytes all e in
-        read e
-        (some-answer (sheet .capacity) (sheet .period) (λ i. session sheet i .envelope) (λ i. session sheet i .service) (sessionCount sheet) (made .some-period) (made .period) (made-tables sheet made) (made .capacity))
+        read e (some-answer _ _ _ walk-end (even _ _ (made .capacity) (made .period)) _ _ _ (made .some-period) (made .period) (made-tables (sheetOf bytes) made))
     go (refused n p) e = (unreadable n p, e)
+
+-- a failing slot count is far below 4,294,967,296
+pub failed-by : (bytes : List ℕ) → AllBytes bytes → (t : ℕ) → Says bytes (failed t) → t ≤ walk-end
+failed-by bytes all t h =
+    let made = makes bytes all (h .0) in
+    fails-by _ _ _ walk-end (even _ _ (made .capacity) (made .period)) _ _ _ (made .some-period) (made .period) (made-tables (sheetOf bytes) made) t (h .1)

@@ -16,11 +16,11 @@ use Rattle.sheet.specs.Sheet.{session, WellMadeSession}
 use Rattle.sheet.specs.Bytes.{sessionOf, sheetOf}
 use Rattle.verdict.specs.Load.{load, Tables, load-none, load-more, load-most}
 use Rattle.verdict.specs.Passes.{Passes, Fails}
-use Rattle.verdict.specs.Stop.{walk-end}
 use Rattle.verdict.specs.Walk.{Lead, lead-none, Row, row-none, Kept, kept-none}
+use Rattle.verdict.specs.Verdict.{canSend, Says, passed, failed}
+use Rattle.verdict.specs.Link.{Link, walk-end}
 use Rattle.verdict.specs.Answer.{stops, stops-there}
-use Rattle.verdict.specs.Verdict.{Says, passed, failed}
-use Rattle.verdict.specs.Ready.{Ready, onFrom, period-is, capacity-is, sessions-are, some-period, few-slots, few-sessions, few-packets, made-at, session-there, made-tables}
+use Rattle.verdict.specs.Ready.{Ready, onFrom, period-is, capacity-is, sessions-are, some-period, few-slots, few-sessions, made-at, session-there, made-tables}
 use Rattle.verdict.specs.Share.{better, share-is}
 
 -- POSITIONS: the first x shares of t slots are tried
@@ -92,62 +92,63 @@ module _ (bytes starts : List ℕ) (count c P : ℕ) (r : Ready bytes starts cou
   tables = rw (period-is bytes starts count c P r, sessions-are bytes starts count c P r) (made-tables (sheetOf bytes) (r .made))
 
   -- the walk may stop after P steady slot counts, or at its end
-  pub may-stop : (T slack w : ℕ) → Lead (partLoad bytes P count) c (T + 1) slack w → Row (partLoad bytes P count) c P 128 (T + 1) P → Passes (partLoad bytes P count) c slack w
-  unfolding partLoad
-  may-stop T slack w l q = stops c P _ _ count (some-period bytes starts count c P r) (few-slots bytes starts count c P r) tables T slack w l q
+  module _ (C : ℕ → ℕ) (R : ℕ) (link : Link C R P walk-end) (slack w : ℕ) where
+    pub may-stop : (T : ℕ) → Lead (partLoad bytes P count) C (T + 1) slack w → Row (partLoad bytes P count) R P 128 (T + 1) P → Passes (partLoad bytes P count) C slack w
+    unfolding partLoad
+    may-stop T l q = stops C R P walk-end link _ _ count (some-period bytes starts count c P r) (few-slots bytes starts count c P r) tables T slack w l q
 
-  pub may-end : (slack w : ℕ) → Lead (partLoad bytes P count) c (walk-end + 1) slack w → Passes (partLoad bytes P count) c slack w
-  unfolding partLoad
-  may-end slack w l = stops-there c P _ _ count (some-period bytes starts count c P r) (few-slots bytes starts count c P r) tables (few-packets bytes starts count c P r) slack w l
+    pub may-end : Lead (partLoad bytes P count) C (walk-end + 1) slack w → Passes (partLoad bytes P count) C slack w
+    unfolding partLoad
+    may-end l = stops-there C R P walk-end link _ _ count (some-period bytes starts count c P r) (few-slots bytes starts count c P r) tables slack w l
 
   -- and what it found is what the verdict says
-  pub says-passed : (slack w : ℕ) → Passes (partLoad bytes P count) c slack w → Says bytes (passed slack w)
+  pub says-passed : (slack w : ℕ) → Passes (partLoad bytes P count) (canSend c) slack w → Says bytes (passed slack w)
   unfolding partLoad
   says-passed slack w h = (r .reads, same _ _ _ (period-is bytes starts count c P r) (sessions-are bytes starts count c P r) (capacity-is bytes starts count c P r) h)
     where
-      same : (Q k d : ℕ) → P ≡ Q → count ≡ k → c ≡ d → Passes (partLoad bytes P count) c slack w → Passes (partLoad bytes Q k) d slack w
+      same : (Q k d : ℕ) → P ≡ Q → count ≡ k → c ≡ d → Passes (partLoad bytes P count) (canSend c) slack w → Passes (partLoad bytes Q k) (canSend d) slack w
       same Q k d e f g h = rw (← e, ← f, ← g) h
 
-  pub says-failed : (w : ℕ) → Fails (partLoad bytes P count) c w → Says bytes (failed w)
+  pub says-failed : (w : ℕ) → Fails (partLoad bytes P count) (canSend c) w → Says bytes (failed w)
   unfolding partLoad
   says-failed w h = (r .reads, same _ _ _ (period-is bytes starts count c P r) (sessions-are bytes starts count c P r) (capacity-is bytes starts count c P r) h)
     where
-      same : (Q k d : ℕ) → P ≡ Q → count ≡ k → c ≡ d → Fails (partLoad bytes P count) c w → Fails (partLoad bytes Q k) d w
+      same : (Q k d : ℕ) → P ≡ Q → count ≡ k → c ≡ d → Fails (partLoad bytes P count) (canSend c) w → Fails (partLoad bytes Q k) (canSend d) w
       same Q k d e f g h = rw (← e, ← f, ← g) h
 
 -- SLOTS: before t is tried
-pub record Walking (L : ℕ → ℕ) (c P t : ℕ) (loads : List ℕ) (slack first steady : ℕ) : Type 0 where
+pub record Walking (L C : ℕ → ℕ) (R P t : ℕ) (loads : List ℕ) (slack first steady : ℕ) : Type 0 where
   pub from : 1 ≤ t
   pub to : t ≤ walk-end + 1
   pub short : steady < P
-  pub lead : Lead L c t slack first
-  pub row : Row L c P 128 t steady
+  pub lead : Lead L C t slack first
+  pub row : Row L R P 128 t steady
   pub kept : Kept L t loads
 
-module _ (L : ℕ → ℕ) (c : ℕ) where
-  pub walking-none : (P slack : ℕ) (loads : List ℕ) → 1 ≤ P → c < slack → length loads ≡ 16 → Walking L c P 1 loads slack 0 0
-  walking-none P slack loads p h e =
+module _ (L C : ℕ → ℕ) where
+  pub walking-none : (R P slack : ℕ) (loads : List ℕ) → 1 ≤ P → C 1 < slack → length loads ≡ 16 → Walking L C R P 1 loads slack 0 0
+  walking-none R P slack loads p h e =
       record {
         from = omega arith;
         to = omega arith;
         short = p;
-        lead = lead-none L c slack h;
-        row = row-none L c P 128 1;
+        lead = lead-none L C slack h;
+        row = row-none L R P 128 1;
         kept = kept-none L loads e;
       }
 
   -- the same lead by other names
-  pub lead-as : {t m w n v : ℕ} → n ≡ m → v ≡ w → Lead L c t m w → Lead L c t n v
+  pub lead-as : {t m w n v : ℕ} → n ≡ m → v ≡ w → Lead L C t m w → Lead L C t n v
   lead-as e f g = rw (e, f) g
 
 -- where the walk's ways out meet: no failing slot count, or the first
-pub record Found (L : ℕ → ℕ) (c failing m w : ℕ) : Type 0 where
-  pub none : failing ≡ 0 → Passes L c m w
-  pub some : (failing ≡ 0 → ⊥) → Fails L c failing
+pub record Found (L C : ℕ → ℕ) (failing m w : ℕ) : Type 0 where
+  pub none : failing ≡ 0 → Passes L C m w
+  pub some : (failing ≡ 0 → ⊥) → Fails L C failing
 
-module _ (L : ℕ → ℕ) (c : ℕ) where
-  pub found-none : {failing m w n v : ℕ} → failing ≡ 0 → n ≡ m → v ≡ w → Passes L c m w → Found L c failing n v
+module _ (L C : ℕ → ℕ) where
+  pub found-none : {failing m w n v : ℕ} → failing ≡ 0 → n ≡ m → v ≡ w → Passes L C m w → Found L C failing n v
   found-none e f g h = record { none = λ z. rw (f, g) h; some = λ z. absurd (z e) }
 
-  pub found-some : {failing u m w : ℕ} → failing ≡ u → Fails L c u → Found L c failing m w
+  pub found-some : {failing u m w : ℕ} → failing ≡ u → Fails L C u → Found L C failing m w
   found-some e h = record { none = λ z. absurd (omega (arith, h .from)); some = λ z. rw e h }

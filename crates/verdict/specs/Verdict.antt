@@ -2,7 +2,7 @@
 use mathlib.Core.Path.{_≡_}
 use mathlib.Core.Bool.{true, false}
 use mathlib.Core.List.{List}
-use Prim.Native.Nat.{ℕ}
+use Prim.Native.Nat.{ℕ, _*_}
 use lib.Dec.{ltb}
 use lib.ListN.{length, getD}
 use Rattle.curve.specs.declared.Slots.{Slots}
@@ -21,6 +21,10 @@ use Rattle.verdict.specs.declared.Verdict.the-variants.{Passed, Failed, 
 abbrev pub loadOf : Sheet → ℕ → ℕ
 loadOf sheet t = load (sheet .period) (λ i. session sheet i .envelope) (λ i. session sheet i .service) (sessionCount sheet) t
 
+-- what a link that sends up to c packets in every slot can send in t slots
+abbrev pub canSend : ℕ → ℕ → ℕ
+canSend c t = c * t
+
 -- the figure of the session at an index, 0 past the last
 unfoldable pub figureOf : Sheet → ℕ → ℕ
 figureOf sheet i =
@@ -37,10 +41,10 @@ told (Passed slack t) = passed (slack .0) (t .0)
 told (Failed t) = failed (t .0)
 told (Unreadable number place) = unreadable number place
 
--- VERDICT: what each case says of the bytes. No slot count bounds it
+-- VERDICT: what each case says of the bytes, by the load against c·t. No slot count bounds it
 abbrev pub Says : List ℕ → Case → Type 0
-Says bytes (passed slack t) = (reading bytes ≡ none) × Passes (loadOf (sheetOf bytes)) (sheetOf bytes .capacity) slack t
-Says bytes (failed t) = (reading bytes ≡ none) × Fails (loadOf (sheetOf bytes)) (sheetOf bytes .capacity) t
+Says bytes (passed slack t) = (reading bytes ≡ none) × Passes (loadOf (sheetOf bytes)) (canSend (sheetOf bytes .capacity)) slack t
+Says bytes (failed t) = (reading bytes ≡ none) × Fails (loadOf (sheetOf bytes)) (canSend (sheetOf bytes .capacity)) t
 Says bytes (unreadable number place) = reading bytes ≡ refused number place
 
 -- FIGURES: those of the sheet's sessions; of bytes that do not read, none

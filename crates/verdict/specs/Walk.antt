@@ -3,7 +3,7 @@
 use mathlib.Core.Path.{_≡_, ap, _∙_}
 use mathlib.Core.List.{List}
 use mathlib.Core.Logic.{_⊎_, inl, inr}
-use Prim.Native.Nat.{ℕ, suc, _+_, _-_, _*_, _%_, _≤_, _<_}
+use Prim.Native.Nat.{ℕ, suc, _+_, _-_, _%_, _≤_, _<_}
 use native.Mathlib.Omega.{arith}
 use lib.ListN.{length, getD, set, length-set}
 use lib.Seq.{getD-set-same, getD-set-other}
@@ -11,15 +11,15 @@ use Rattle.curve.specs.Order.{le-or-lt}
 use Rattle.verdict.specs.Stop.{PassesTo, Steady, Settled}
 
 -- m is the least slack of 1..t-1 and w the first that gives it; before the first, m is above any slack of 1
-pub record Lead (L : ℕ → ℕ) (c t m w : ℕ) : Type 0 where
+pub record Lead (L C : ℕ → ℕ) (t m w : ℕ) : Type 0 where
   pub within : w < t
-  pub least : (u : ℕ) → 1 ≤ u → u < t → L u + m ≤ c * u
-  pub first : (u : ℕ) → 1 ≤ u → u < w → L u + m < c * u
-  pub gives : 2 ≤ t → (1 ≤ w) × (L w + m ≡ c * w)
-  pub start : t ≡ 1 → c < m
+  pub least : (u : ℕ) → 1 ≤ u → u < t → L u + m ≤ C u
+  pub first : (u : ℕ) → 1 ≤ u → u < w → L u + m < C u
+  pub gives : 2 ≤ t → (1 ≤ w) × (L w + m ≡ C w)
+  pub start : t ≡ 1 → C 1 < m
 
-module _ (L : ℕ → ℕ) (c : ℕ) where
-  pub lead-none : (m : ℕ) → c < m → Lead L c 1 m 0
+module _ (L C : ℕ → ℕ) where
+  pub lead-none : (m : ℕ) → C 1 < m → Lead L C 1 m 0
   lead-none m h =
       record {
         within = omega arith;
@@ -30,17 +30,17 @@ module _ (L : ℕ → ℕ) (c : ℕ) where
       }
 
   -- one more slot count, whose slack is no smaller than n
-  one-more : (t n : ℕ) → ((u : ℕ) → 1 ≤ u → u < t → L u + n ≤ c * u) → L t + n ≤ c * t → (u : ℕ) → 1 ≤ u → u < t + 1 → L u + n ≤ c * u
+  one-more : (t n : ℕ) → ((u : ℕ) → 1 ≤ u → u < t → L u + n ≤ C u) → L t + n ≤ C t → (u : ℕ) → 1 ≤ u → u < t + 1 → L u + n ≤ C u
   one-more t n old new u a b = go (le-or-lt t u)
     where
-      go : (t ≤ u) ⊎ (u < t) → L u + n ≤ c * u
+      go : (t ≤ u) ⊎ (u < t) → L u + n ≤ C u
       go (inl k) =
           let e : u ≡ t = omega arith in
           rw e new
       go (inr k) = old u a k
 
   -- t has a smaller slack d
-  pub lead-new : (t m w d : ℕ) → 1 ≤ t → Lead L c t m w → L t + d ≡ c * t → d < m → Lead L c (t + 1) d t
+  pub lead-new : (t m w d : ℕ) → 1 ≤ t → Lead L C t m w → L t + d ≡ C t → d < m → Lead L C (t + 1) d t
   lead-new t m w d p g e h =
       record {
         within = omega arith;
@@ -51,7 +51,7 @@ module _ (L : ℕ → ℕ) (c : ℕ) where
       }
 
   -- t has no smaller slack
-  pub lead-keep : (t m w d : ℕ) → 1 ≤ t → Lead L c t m w → L t + d ≡ c * t → m ≤ d → Lead L c (t + 1) m w
+  pub lead-keep : (t m w d : ℕ) → 1 ≤ t → Lead L C t m w → L t + d ≡ C t → m ≤ d → Lead L C (t + 1) m w
   lead-keep t m w d p g e h =
       record {
         within = omega (arith, g .within);
@@ -61,14 +61,14 @@ module _ (L : ℕ → ℕ) (c : ℕ) where
         start = λ q. absurd (omega arith);
       }
     where
-      had : (2 ≤ t) ⊎ (t < 2) → (1 ≤ w) × (L w + m ≡ c * w)
+      had : (2 ≤ t) ⊎ (t < 2) → (1 ≤ w) × (L w + m ≡ C w)
       had (inl k) = g .gives k
       had (inr k) =
           let q : t ≡ 1 = omega arith in
-          absurd (omega (arith, g .start q, ap (λ v. c * v) q))
+          absurd (omega (arith, g .start q, ap C q))
 
   -- after T
-  pub lead-done : (T m w : ℕ) → 1 ≤ T → Lead L c (T + 1) m w → PassesTo L c T m w
+  pub lead-done : (T m w : ℕ) → 1 ≤ T → Lead L C (T + 1) m w → PassesTo L C T m w
   lead-done T m w p g =
       let z = g .gives (omega arith) in
       record {
@@ -80,18 +80,18 @@ module _ (L : ℕ → ℕ) (c : ℕ) where
       }
 
 -- the last `run` slot counts before t are steady, and past T0
-pub record Row (L : ℕ → ℕ) (c P T0 t run : ℕ) : Type 0 where
-  pub steady : (u : ℕ) → t ≤ u + P + run → u + P < t → Steady L c P u
+pub record Row (L : ℕ → ℕ) (R P T0 t run : ℕ) : Type 0 where
+  pub steady : (u : ℕ) → t ≤ u + P + run → u + P < t → Steady L R P u
   pub late : run ≤ t - suc T0
 
-module _ (L : ℕ → ℕ) (c P T0 : ℕ) where
-  pub row-none : (t : ℕ) → Row L c P T0 t 0
+module _ (L : ℕ → ℕ) (R P T0 : ℕ) where
+  pub row-none : (t : ℕ) → Row L R P T0 t 0
   row-none t = record { steady = λ u a b. absurd (omega arith); late = omega arith }
 
-  pub row-more : (t run : ℕ) → T0 < t → P ≤ t → Row L c P T0 t run → L t ≤ L (t - P) + c * P → Row L c P T0 (t + 1) (run + 1)
+  pub row-more : (t run : ℕ) → T0 < t → P ≤ t → Row L R P T0 t run → L t ≤ L (t - P) + R → Row L R P T0 (t + 1) (run + 1)
   row-more t run h k g s = record { steady = λ u a b. go u a b (le-or-lt t (u + P)); late = omega (arith, g .late) }
     where
-      go : (u : ℕ) → t + 1 ≤ u + P + (run + 1) → u + P < t + 1 → (t ≤ u + P) ⊎ (u + P < t) → Steady L c P u
+      go : (u : ℕ) → t + 1 ≤ u + P + (run + 1) → u + P < t + 1 → (t ≤ u + P) ⊎ (u + P < t) → Steady L R P u
       go u a b (inr d) = g .steady u (omega arith) d
       go u a b (inl d) =
           let e : u ≡ t - P = omega arith in
@@ -99,7 +99,7 @@ module _ (L : ℕ → ℕ) (c P T0 : ℕ) where
           rw (e, f) s
 
   -- P in a row, up to T
-  pub row-settled : (T : ℕ) → Row L c P T0 (T + 1) P → Settled L c P T
+  pub row-settled : (T : ℕ) → Row L R P T0 (T + 1) P → Settled L R P T
   row-settled T g u a b = g .steady u (omega arith) (omega arith)
 
 -- the last 16 loads, each at its slot count's rest by 16

@@ -19,7 +19,7 @@ add-slack : tie.Need-add-slack Inv-positions μ-positions Inv-sessions μ-sessio
 add-slack c = omega (arith, bounds (c .before .before .before))
 
 slots-holds : tie.Need-slots-holds Inv-positions μ-positions Inv-sessions μ-sessions Inv-slots μ-slots
-slots-holds c = (walking-none _ _ _ _ _ (bounds (c .before .before .before) .0) (omega arith) refl, seen-none _ _ _ 1 _ _ _ (c .window .ensures) refl refl)
+slots-holds c = (walking-none _ _ _ _ _ _ (bounds (c .before .before .before) .0) (omega arith) refl, seen-none _ _ _ 1 _ _ _ (c .window .ensures) refl refl)
 
 lesser-requires : tie.Need-lesser-requires Inv-positions μ-positions Inv-sessions μ-sessions Inv-slots μ-slots
 lesser-requires c κs = search needs

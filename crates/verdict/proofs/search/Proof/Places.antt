@@ -7,8 +7,9 @@ use native.Mathlib.Omega.{arith}
 use denote.Ref.{now}
 use lib.ListN.{length, getD}
 use Rattle.verdict.specs.Passes.{Passes, Fails}
-use Rattle.verdict.specs.Stop.{walk-end}
 use Rattle.verdict.specs.Walk.{Lead, lead-new, lead-keep, Row, row-none, row-more}
+use Rattle.verdict.specs.Verdict.{canSend}
+use Rattle.verdict.specs.Link.{walk-end, even}
 use Rattle.verdict.specs.Ready.{onFrom, some-period, few-slots, few-sessions, few-packets, rest-made}
 use Rattle.verdict.specs.Held.{Seen, Held, held-new, held-old}
 use Rattle.verdict.specs.Steps.{Shares, shares-least, partLoad, part-more, may-stop, may-end, Walking, lead-as, Found, found-none, found-some}
@@ -28,7 +29,7 @@ abbrev pub μ-sessions : tie.MeasureT-sessions
 
 abbrev pub Inv-slots : tie.InvT-slots
 Inv-slots bytes starts count c period p each firsts recent₀ end₀ tries₀ loads₀ slack₀ first₀ steady₀ t₀ recent end tries loads slack first steady t =
-    Walking (partLoad bytes (period .0) count) each p t loads slack first steady × Seen bytes (period .0) (256 * count) end t firsts recent tries
+    Walking (partLoad bytes (period .0) count) (canSend each) (each * p) p t loads slack first steady × Seen bytes (period .0) (256 * count) end t firsts recent tries
 
 abbrev pub μ-slots : tie.MeasureT-slots
 μ-slots bytes starts count c period p each firsts recent₀ end₀ tries₀ loads₀ slack₀ first₀ steady₀ t₀ recent end tries loads slack first steady t = 131217 - t
@@ -108,13 +109,13 @@ module _ (c : tie.Joined4 Inv-positions μ-positions Inv-sessions μ-sessions In
   unfolding spare
   spare-is = omega (arith, sum-is at-sessions, c .before .if3 .left)
 
-  pub lead-next : Lead (L at-sessions) each (t at-sessions + 1) (c .if4 .slack) (c .if4 .first)
+  pub lead-next : Lead (L at-sessions) (canSend each) (t at-sessions + 1) (c .if4 .slack) (c .if4 .first)
   unfolding spare
   lead-next =
       let w = slots .slots .inv .0 in
       ⊎-elim
-      (λ a. lead-as (L at-sessions) each (a .1) (a .2) (lead-new (L at-sessions) each (t at-sessions) _ _ spare (w .from) (w .lead) spare-is (a .0 .taken)))
-      (λ a. lead-as (L at-sessions) each (a .1) (a .2) (lead-keep (L at-sessions) each (t at-sessions) _ _ spare (w .from) (w .lead) spare-is (a .0 .left)))
+      (λ a. lead-as (L at-sessions) (canSend each) (a .1) (a .2) (lead-new (L at-sessions) (canSend each) (t at-sessions) _ _ spare (w .from) (w .lead) spare-is (a .0 .taken)))
+      (λ a. lead-as (L at-sessions) (canSend each) (a .1) (a .2) (lead-keep (L at-sessions) (canSend each) (t at-sessions) _ _ spare (w .from) (w .lead) spare-is (a .0 .left)))
       (c .if4 .came)
 
   -- the load a period back is kept
@@ -125,19 +126,19 @@ module _ (c : tie.Joined4 Inv-positions μ-positions Inv-sessions μ-sessions In
 
   -- the row grows by t
   pub row-next : 128 < t at-sessions → at-sessions .before .sessions .load ≤ getD (slots .slots .loads) ((t at-sessions - P) % 16) 0 + each * P
-      → Row (L at-sessions) each P 128 (t at-sessions + 1) (slots .slots .steady + 1)
+      → Row (L at-sessions) (each * P) P 128 (t at-sessions + 1) (slots .slots .steady + 1)
   row-next h k =
       let few = bounds (start at-sessions) in
-      row-more (L at-sessions) each P 128 (t at-sessions) (slots .slots .steady) h (omega arith) (slots .slots .inv .0 .row) (omega (arith, sum-is at-sessions, past-is h))
+      row-more (L at-sessions) (each * P) P 128 (t at-sessions) (slots .slots .steady) h (omega arith) (slots .slots .inv .0 .row) (omega (arith, sum-is at-sessions, past-is h))
 
 -- where the arms meet again: the row after t
 pub steady-next : (c : tie.Joined5 Inv-positions μ-positions Inv-sessions μ-sessions Inv-slots μ-slots)
-    → (c .if5 .steady < P (c .before)) × Row (L (at-sessions (c .before))) (each (c .before)) (P (c .before)) 128 (t (at-sessions (c .before)) + 1) (c .if5 .steady)
+    → (c .if5 .steady < P (c .before)) × Row (L (at-sessions (c .before))) (each (c .before) * P (c .before)) (P (c .before)) 128 (t (at-sessions (c .before)) + 1) (c .if5 .steady)
 steady-next c =
     let b = c .before in
     let w = slots b .slots .inv .0 in
     let one : 1 ≤ P b = bounds (start (at-sessions b)) .0 in
-    let none = row-none (L (at-sessions b)) (each b) (P b) 128 (t (at-sessions b) + 1) in
+    let none = row-none (L (at-sessions b)) (each b * P b) (P b) 128 (t (at-sessions b) + 1) in
     let below : slots b .slots .steady < P b = w .short in
     let late : slots b .slots .steady ≤ t (at-sessions b) - 129 = w .row .late in
     ⊎-elim
@@ -150,28 +151,30 @@ steady-next c =
     (c .if5 .came)
 
 -- the three ways out of the walk
-pub fails-there : (c : tie.Then3 Inv-positions μ-positions Inv-sessions μ-sessions Inv-slots μ-slots) → Fails (L (c .before)) (start (c .before) .args .c .0) (t (c .before))
+pub fails-there : (c : tie.Then3 Inv-positions μ-positions Inv-sessions μ-sessions Inv-slots μ-slots) → Fails (L (c .before)) (canSend (start (c .before) .args .c .0)) (t (c .before))
 fails-there c =
     let b = c .before in
     let w = c .before .before .before .before .before .before .before .slots .inv .0 in
     record { from = w .from; over = omega (arith, sum-is b, c .if3 .taken); first = λ u h k. omega (arith, w .lead .least u h k) }
 
 pub passes-there : (c : tie.Then7 Inv-positions μ-positions Inv-sessions μ-sessions Inv-slots μ-slots)
-    → Passes (L (at-sessions (c .before .before .before))) (each (c .before .before .before)) (c .before .before .before .if4 .slack) (c .before .before .before .if4 .first)
+    → Passes (L (at-sessions (c .before .before .before))) (canSend (each (c .before .before .before))) (c .before .before .before .if4 .slack) (c .before .before .before .if4 .first)
 passes-there c =
     let b = c .before .before .before in
     let row = row-next b (c .before .before .if5 .taken) (c .before .if6 .taken) in
-    may-stop _ _ _ _ _ (start (at-sessions b) .pre) (t (at-sessions b)) (b .if4 .slack) (b .if4 .first) (lead-next b) (rw (c .if7 .taken) at row)
+    let few = bounds (start (at-sessions b)) in
+    may-stop _ _ _ _ _ (start (at-sessions b) .pre) _ _ (even (each b) (P b) (few .3) (few .1)) (b .if4 .slack) (b .if4 .first) (t (at-sessions b)) (lead-next b) (rw (c .if7 .taken) at row)
 
 pub passes-end : (c : tie.At-slots Inv-positions μ-positions Inv-sessions μ-sessions Inv-slots μ-slots) → 131216 < c .slots .t
-    → Passes (partLoad (now (c .before .before .before .before .args .bytes)) (c .before .before .before .before .args .period .0) (c .before .before .before .before .args .count)) (c .before .before .before .before .args .c .0) (c .slots .slack) (c .slots .first)
+    → Passes (partLoad (now (c .before .before .before .before .args .bytes)) (c .before .before .before .before .args .period .0) (c .before .before .before .before .args .count)) (canSend (c .before .before .before .before .args .c .0)) (c .slots .slack) (c .slots .first)
 passes-end c h =
     let e : c .slots .t ≡ walk-end + 1 = omega (arith, c .slots .inv .0 .to) in
-    may-end _ _ _ _ _ (c .before .before .before .before .pre) (c .slots .slack) (c .slots .first) (rw e at (c .slots .inv .0 .lead))
+    let few = bounds (c .before .before .before .before) in
+    may-end _ _ _ _ _ (c .before .before .before .before .pre) _ _ (even _ _ (few .3) (few .1)) (c .slots .slack) (c .slots .first) (rw e at (c .slots .inv .0 .lead))
 
 -- where they meet: 0 and a slack, or the failing slot count
 pub found : (c : tie.Joined1 Inv-positions μ-positions Inv-sessions μ-sessions Inv-slots μ-slots)
-    → Found (partLoad (now (c .before .before .before .before .before .args .bytes)) (c .before .before .before .before .before .args .period .0) (c .before .before .before .before .before .args .count)) (c .before .before .before .before .before .args .c .0) (c .if1 .failing) (c .if1 .slack) (c .if1 .first)
+    → Found (partLoad (now (c .before .before .before .before .before .args .bytes)) (c .before .before .before .before .before .args .period .0) (c .before .before .before .before .before .args .count)) (canSend (c .before .before .before .before .before .args .c .0)) (c .if1 .failing) (c .if1 .slack) (c .if1 .first)
 found c =
     ⊎-elim
     (λ a. found-none _ _ (a .5) (a .2) (a .3) (passes-end (c .before) (a .0 .taken)))
