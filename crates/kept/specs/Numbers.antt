@@ -1,11 +1,11 @@
 -- What can be read back from the numbers that a slot wrote: a session's three, and the packets sent, one by one and counted by sessions. Assumes nothing.
-use mathlib.Core.Path.{_≡_, refl, sym, ap, ap₂, _∙_}
+use mathlib.Core.Path.{_≡_, refl, sym, ap, _∙_}
 use mathlib.Core.Logic.{_⊎_, inl, inr}
-use mathlib.Core.List.{List, [], _∷_, _++_, List·Memᴰ, List·Memᴰ·head, List·Memᴰ·tail, append-assoc}
+use mathlib.Core.List.{List, [], _∷_, _++_, List·Memᴰ, List·Memᴰ·head, List·Memᴰ·tail, Memᴰ·append-right, append-assoc}
 use Prim.Native.Nat.{ℕ, zero, suc, _+_, _*_, _≤_, _<_}
 use native.Mathlib.Omega.{arith}
 use lib.Dec.{eqb}
-use lib.ListN.{length, getD, List·getD-append}
+use lib.ListN.{length, getD, length-append, List·getD-append}
 use lib.Seq.{getD-append-add}
 use Rattle.curve.specs.Order.{le-or-lt}
 use Rattle.curve.specs.Total.{total, total-zero, total-front, total-cong}
@@ -14,8 +14,8 @@ use Rattle.sheet.specs.Sheet.{Sheet, sessionCount}
 use Rattle.rules.specs.Count.{ind, count}
 use Rattle.rules.specs.Model.{Packet, Past, ofSession, joined}
 use Rattle.intake.specs.Intakes.{outcomeNumbers}
-use Rattle.send.specs.Send.{noteNumbers, sessionAt, packetAt, deadlineAt}
-use Rattle.exact.specs.Written.{outcomeOf, outcomesBy, notesOf, length-outcomes}
+use Rattle.send.specs.Send.{noteNumbers, sessionAt}
+use Rattle.exact.specs.Written.{outcomeOf, outcomesBy, notesOf, length-notesOf, notesOf-append, length-outcomes}
 
 -- the r-th number of session i among those of all
 module _ (sheet : Sheet) (p : Past) (offers rest : List ℕ) where
@@ -46,6 +46,56 @@ module _ (sheet : Sheet) (p : Past) (offers rest : List ℕ) where
   unfolding outcomesBy
   outcome-at i r h l = outcome-to (sessionCount sheet) i r h l rest
 
+-- the note of a packet: session, packet, deadline
+abbrev pub noteOf : Packet → List ℕ
+noteOf x = x .owner ∷ x .number ∷ slotsOf (x .due) ∷ []
+
+-- a packet stands at place j of a list, with those before it and those after it
+pub record AtPlace (l : List Packet) (j : ℕ) (x : Packet) : Type 0 where
+  pub before : List Packet
+  pub others : List Packet
+  pub splits : l ≡ before ++ (x ∷ others)
+  pub place : length before ≡ j
+
+-- one place further on
+next-place : (y : Packet) (l : List Packet) (j : ℕ) (x : Packet) → AtPlace l j x → AtPlace (y ∷ l) (suc j) x
+next-place y l j x a = record { before = y ∷ a .before; others = a .others; splits = ap (λ (z : List Packet). y ∷ z) (a .splits); place = ap suc (a .place) }
+
+-- each member has a place, and each place a packet, which is a member
+pub place-of : (l : List Packet) (x : Packet) → List·Memᴰ x l → (j : ℕ) × AtPlace l j x
+place-of l x (List·Memᴰ·head {x = y} {xs = ys} e) = (0, record { before = []; others = ys; splits = ap (λ z. z ∷ ys) (sym e); place = refl })
+place-of l x (List·Memᴰ·tail {x = y} {xs = ys} m) =
+    let w = place-of ys x m in
+    (suc (w .0), next-place y ys (w .0) x (w .1))
+
+pub packet-at : (l : List Packet) (j : ℕ) → j < length l → (x : Packet) × AtPlace l j x
+packet-at [] j h = absurd (omega arith)
+packet-at (y ∷ l) zero h = (y, record { before = []; others = l; splits = refl; place = refl })
+packet-at (y ∷ l) (suc j) h =
+    let w = packet-at l j (omega arith) in
+    (w .0, next-place y l j (w .0) (w .1))
+
+module _ (l : List Packet) (j : ℕ) (x : Packet) (a : AtPlace l j x) where
+  pub member : List·Memᴰ x l
+  member = rw (a .splits) (Memᴰ·append-right (a .before) (List·Memᴰ·head refl))
+
+  pub place-among : j < length l
+  place-among = omega (arith, ap length (a .splits), length-append (a .before) (x ∷ a .others), a .place)
+
+  module _ (rest : List ℕ) where
+    -- its note, after those of the packets before it
+    noted-after : notesOf l ++ rest ≡ notesOf (a .before) ++ (notesOf (x ∷ a .others) ++ rest)
+    noted-after = ap (λ z. notesOf z ++ rest) (a .splits) ∙ ap (λ z. z ++ rest) (notesOf-append (a .before) (x ∷ a .others)) ∙ append-assoc (notesOf (a .before)) (notesOf (x ∷ a .others)) rest
+
+    pub note-at : (r : ℕ) → r < 3 → getD (notesOf l ++ rest) (noteNumbers * j + r) 0 ≡ getD (noteOf x) r 0
+    unfolding notesOf
+    note-at r h =
+        let at : noteNumbers * j + r ≡ length (notesOf (a .before)) + r = omega (arith, length-notesOf (a .before), a .place) in
+        ap (λ (z : List ℕ). getD z (noteNumbers * j + r) 0) noted-after
+        ∙ ap (λ k. getD (notesOf (a .before) ++ (notesOf (x ∷ a .others) ++ rest)) k 0) at
+        ∙ getD-append-add (notesOf (a .before)) (notesOf (x ∷ a .others) ++ rest) r 0
+        ∙ List·getD-append (noteOf x) (notesOf (a .others) ++ rest) 0 r h
+
 -- further on by one note
 shift : (r : ℕ) (x : Packet) (l : List Packet) (rest : List ℕ) (j : ℕ) → getD (notesOf (x ∷ l) ++ rest) (noteNumbers * suc j + r) 0 ≡ getD (notesOf l ++ rest) (noteNumbers * j + r) 0
 unfolding notesOf
@@ -53,41 +103,18 @@ shift r x l rest j =
     let e : noteNumbers * suc j + r ≡ suc (suc (suc (noteNumbers * j + r))) = omega arith in
     ap (λ k. getD (x .owner ∷ x .number ∷ slotsOf (x .due) ∷ (notesOf l ++ rest)) k 0) e
 
--- where a packet's note stands
-pub record NotedAt (l : List Packet) (rest : List ℕ) (x : Packet) : Type 0 where
-  pub j : ℕ
-  pub among : j < length l
-  pub session-is : getD (notesOf l ++ rest) (noteNumbers * j + sessionAt) 0 ≡ x .owner
-  pub packet-is : getD (notesOf l ++ rest) (noteNumbers * j + packetAt) 0 ≡ x .number
-  pub deadline-is : getD (notesOf l ++ rest) (noteNumbers * j + deadlineAt) 0 ≡ slotsOf (x .due)
-
-pub noted-at : (l : List Packet) (rest : List ℕ) (x : Packet) → List·Memᴰ x l → NotedAt l rest x
-unfolding notesOf
-noted-at l rest x (List·Memᴰ·head {x = y} {xs = ys} e) =
-    record {
-      j = 0;
-      among = omega arith;
-      session-is = ap (λ z. z .owner) (sym e);
-      packet-is = ap (λ z. z .number) (sym e);
-      deadline-is = ap (λ z. slotsOf (z .due)) (sym e);
-    }
-noted-at l rest x (List·Memᴰ·tail {x = y} {xs = ys} m) =
-    let w = noted-at ys rest x m in
-    record {
-      j = suc (w .j);
-      among = omega (arith, w .among);
-      session-is = shift sessionAt y ys rest (w .j) ∙ w .session-is;
-      packet-is = shift packetAt y ys rest (w .j) ∙ w .packet-is;
-      deadline-is = shift deadlineAt y ys rest (w .j) ∙ w .deadline-is;
-    }
-
 -- how many notes are of a session
 pub noted-count : (i : ℕ) (l : List Packet) (rest : List ℕ) → total (λ j. ind (eqb (getD (notesOf l ++ rest) (noteNumbers * j + sessionAt) 0) (suc i))) (length l) ≡ count (ofSession i) l
-unfolding count ofSession noted-at
+unfolding count ofSession notesOf
 noted-count i [] rest = total-zero (λ j. ind (eqb (getD (notesOf [] ++ rest) (noteNumbers * j + sessionAt) 0) (suc i)))
 noted-count i (x ∷ l) rest =
     total-front (λ j. ind (eqb (getD (notesOf (x ∷ l) ++ rest) (noteNumbers * j + sessionAt) 0) (suc i))) (length l)
-    ∙ ap₂ _+_ first (total-cong _ _ (length l) (λ j h. ap (λ v. ind (eqb v (suc i))) (shift sessionAt x l rest j)) ∙ noted-count i l rest)
-  where
-    first : ind (eqb (getD (notesOf (x ∷ l) ++ rest) (noteNumbers * 0 + sessionAt) 0) (suc i)) ≡ ind (eqb (x .owner) (suc i))
-    first = ap (λ v. ind (eqb v (suc i))) (noted-at (x ∷ l) rest x (List·Memᴰ·head refl) .session-is)
+    ∙ ap (λ k. ind (eqb (x .owner) (suc i)) + k) (total-cong _ _ (length l) (λ j h. ap (λ v. ind (eqb v (suc i))) (shift sessionAt x l rest j)) ∙ noted-count i l rest)
+
+-- and how many before a place
+pub noted-before : (i : ℕ) (l : List Packet) (rest : List ℕ) (j : ℕ) (x : Packet) (a : AtPlace l j x)
+    → total (λ m. ind (eqb (getD (notesOf l ++ rest) (noteNumbers * m + sessionAt) 0) (suc i))) j ≡ count (ofSession i) (a .before)
+noted-before i l rest j x a =
+    ap (λ (z : List ℕ). total (λ m. ind (eqb (getD z (noteNumbers * m + sessionAt) 0) (suc i))) j) (noted-after l j x a rest)
+    ∙ ap (total (λ m. ind (eqb (getD (notesOf (a .before) ++ (notesOf (x ∷ a .others) ++ rest)) (noteNumbers * m + sessionAt) 0) (suc i)))) (sym (a .place))
+    ∙ noted-count i (a .before) (notesOf (x ∷ a .others) ++ rest)

@@ -1,29 +1,28 @@
 -- The contracts of the calls, chained: before each slot the slice is the run after all slots before it, and each slot is the rules' next slot. Assumes nothing.
-use mathlib.Core.Path.{_≡_, refl, sym, ap, _∙_}
+use mathlib.Core.Path.{_≡_, refl, sym, ap, subst, _∙_}
 use mathlib.Core.Logic.{_⊎_, inl, inr}
 use mathlib.Core.List.{List, [], _∷_, _++_}
-use Prim.Native.Nat.{ℕ, zero, suc, _+_, _*_, _≤_, _<_}
+use Prim.Native.Nat.{ℕ, zero, suc, _+_, _≤_, _<_}
 use native.Mathlib.Omega.{arith}
-use lib.ListN.{length, getD, drop, length-append}
+use lib.ListN.{length, drop, length-append}
 use lib.Seq.{drop-append-add}
 use Rattle.curve.specs.Order.{le-or-lt}
-use Rattle.curve.specs.Total.{total, total-most, total-le}
-use Rattle.sheet.specs.Sheet.{Sheet, WellMade, sessionCount}
+use Rattle.sheet.specs.Sheet.{Sheet, WellMade}
 use Rattle.sheet.specs.Bytes.{sheetOf}
 use Rattle.sheet.specs.Makes.{AllBytes, makes}
 use Rattle.verdict.specs.Verdict.{Case, passed, failed, unreadable, Says}
 use Rattle.verdict.specs.OneVerdict.{some-verdict}
 use Rattle.rules.specs.Steps.{steps, steps-snoc}
-use Rattle.rules.specs.Model.{Past, over, takes, noRoom, oneSlot, past, after}
-use Rattle.rules.specs.Laws.{offers-split, sent-most}
+use Rattle.rules.specs.Model.{oneSlot, past, after}
 use Rattle.layout.specs.Layout.{runNumbers}
 use Rattle.layout.specs.Sound.{mostSlots}
 use Rattle.history.specs.Run.{length-run}
 use Rattle.history.specs.After.{runWith, runAfter, IsRun}
-use Rattle.opening.specs.Open.{opened, refused, Opens}
-use Rattle.run.specs.Brought.{Within}
-use Rattle.run.specs.ByRules.{tallyBy, Done}
-use Rattle.kept.specs.Calls.{Calls, Lent, Roomy, RoomyTallies}
+use Rattle.opening.specs.Open.{opened, opened-or-refused, Opens, unchanged as not-opened}
+use Rattle.run.specs.Slot.{sent}
+use Rattle.run.specs.ByRules.{Done}
+use Rattle.run.specs.Answered.{unchanged, Answered, answered}
+use Rattle.kept.specs.Calls.{Between, none, slot, opening, Calls}
 
 pub length-runAfter : (sheet : Sheet) (history : List (List ℕ)) → length (runAfter sheet history) ≡ runNumbers
 unfolding runAfter runWith
@@ -51,82 +50,79 @@ is-run sheet history run rest e =
     let d : drop runNumbers run ≡ rest = ap (drop runNumbers) e ∙ (rw n at (drop-append-add (runAfter sheet history) rest 0)) in
     e ∙ ap (λ (r : List ℕ). runAfter sheet history ++ r) (sym d)
 
--- what open answered, back to the verdict
-data PassedBy (bytes run : List ℕ) : Type 0 where
-  by : (slack t : ℕ) → Says bytes (passed slack t) → (start : List ℕ) → run ≡ runAfter (sheetOf bytes) [] ++ drop runNumbers start → PassedBy bytes run
+-- A REFUSED CALL CHANGES NOTHING, nor do many
+pub between-same : (was is : List ℕ) → Between was is → is ≡ was
+between-same was is none = refl
+between-same was is (slot {found} b p) = unchanged _ _ _ _ _ _ _ _ _ _ _ p .run-is ∙ between-same was found b
+between-same was is (opening {found} b all o) = not-opened _ _ _ _ _ all o ∙ between-same was found b
 
-refused-or-opened : (number place : ℕ) → opened ≡ refused number place → ⊥
-refused-or-opened number place e =
-    let z : _≡_ {A = ℕ} 0 1 = cc in
-    omega arith
+-- what open answered, back to the verdict: the sheet passes, and the run is that before slot 1
+record PassedBy (bytes start run : List ℕ) : Type 0 where
+  slack : ℕ
+  t : ℕ
+  says : Says bytes (passed slack t)
+  is : run ≡ runAfter (sheetOf bytes) [] ++ drop runNumbers start
 
-passed-by : (bytes start run : List ℕ) → AllBytes bytes → Opens bytes start run opened → PassedBy bytes run
+passed-by : (bytes start run : List ℕ) → AllBytes bytes → Opens bytes start run opened → PassedBy bytes start run
 passed-by bytes start run all o = go (le-or-lt runNumbers (length start)) (some-verdict bytes all)
   where
-    go : (runNumbers ≤ length start) ⊎ (length start < runNumbers) → ((v : Case) × Says bytes v) → PassedBy bytes run
-    go (inr h) v = absurd (refused-or-opened 13 0 (o .too-short h .0))
-    go (inl h) (passed slack t, s) = by slack t s start (o .long-enough h (passed slack t) s .1)
-    go (inl h) (failed t, s) = absurd (refused-or-opened 12 t (o .long-enough h (failed t) s .0))
-    go (inl h) (unreadable number place, s) = absurd (refused-or-opened number place (o .long-enough h (unreadable number place) s .0))
+    go : (runNumbers ≤ length start) ⊎ (length start < runNumbers) → ((v : Case) × Says bytes v) → PassedBy bytes start run
+    go (inr h) v = absurd (opened-or-refused 13 0 (o .too-short h .0))
+    go (inl h) (passed slack t, s) = record { slack = slack; t = t; says = s; is = o .long-enough h (passed slack t) s .1 }
+    go (inl h) (failed t, s) = absurd (opened-or-refused 12 t (o .long-enough h (failed t) s .0))
+    go (inl h) (unreadable number place, s) = absurd (opened-or-refused number place (o .long-enough h (unreadable number place) s .0))
 
--- the sums of a slot leave a tally with room within its limit
-fits-tally : (sheet : Sheet) → WellMade sheet → (p : Past) (offers : List ℕ) → AllBytes offers → (t : _) → Roomy t → Within (tallyBy sheet p offers t)
-fits-tally sheet made p offers bytes t r =
-    let m = sessionCount sheet in
-    let few : m ≤ 16 = made .few in
-    let o : total (λ i. getD offers i 0) m ≤ m * 255 = total-most (λ i. getD offers i 0) m 255 (λ i h. omega (arith, bytes i)) in
-    let a = total-le (λ i. takes sheet p i (getD offers i 0)) (λ i. getD offers i 0) m (λ i h. omega (arith, offers-split sheet p i (getD offers i 0))) in
-    let b = total-le (λ i. over sheet p i (getD offers i 0)) (λ i. getD offers i 0) m (λ i h. omega (arith, offers-split sheet p i (getD offers i 0))) in
-    let d = total-le (λ i. noRoom sheet p i (getD offers i 0)) (λ i. getD offers i 0) m (λ i h. omega (arith, offers-split sheet p i (getD offers i 0))) in
-    record {
-      offered = omega (arith, r .offered);
-      taken-in = omega (arith, r .taken-in);
-      over = omega (arith, r .over);
-      no-room = omega (arith, r .no-room);
-      sent = omega (arith, r .sent, sent-most sheet p offers, made .capacity);
-    }
-
-module _ (bytes : List ℕ) (n : ℕ) (c : Calls bytes n) (lent : Lent bytes n c) (roomy : RoomyTallies bytes n c) (most : n ≤ mostSlots) where
+module _ (bytes : List ℕ) (n : ℕ) (c : Calls bytes n) where
   abbrev sheet : Sheet
   sheet = sheetOf bytes
 
+  passes : PassedBy bytes (c .start) (c .left 0)
+  passes = passed-by bytes (c .start) (c .left 0) (c .bytes-are) (c .opens)
+
   pub verdict : (slack : ℕ) × (t : ℕ) × Says bytes (passed slack t)
-  verdict = go (passed-by bytes (c .start) (c .run 0) (lent .bytes-are) (c .opens))
-    where
-      go : PassedBy bytes (c .run 0) → (slack : ℕ) × (t : ℕ) × Says bytes (passed slack t)
-      go (by slack t s start e) = (slack, t, s)
+  verdict = (passes .slack, passes .t, passes .says)
 
   pub made : WellMade sheet
-  made = makes bytes (lent .bytes-are) (verdict .2 .0)
+  made = makes bytes (c .bytes-are) (passes .says .0)
 
-  first-run : IsRun sheet [] (c .run 0)
-  first-run = go (passed-by bytes (c .start) (c .run 0) (lent .bytes-are) (c .opens))
-    where
-      go : PassedBy bytes (c .run 0) → IsRun sheet [] (c .run 0)
-      go (by slack t s start e) = is-run sheet [] (c .run 0) (drop runNumbers start) e
-
-  abbrev history : ℕ → List (List ℕ)
+  abbrev pub history : ℕ → List (List ℕ)
   history = firstSlots (c .offers)
 
-  abbrev DoneAt : ℕ → Type 0
-  DoneAt u = Done sheet (history u) (c .run u) (c .offers u) (c .outcomes u) (c .notes u) (c .tally u) (c .run (suc u)) (c .outcomes′ u) (c .notes′ u) (c .tally′ u) (c .reply u)
+  -- the slice that slot u left is the run after the first u slots, and so it stays through refused calls
+  record Stands (u : ℕ) : Type 0 where
+    most : u ≤ mostSlots
+    is : IsRun sheet (history u) (c .left u)
+
+  stays : (u : ℕ) → Stands u → (run : List ℕ) → Between (c .left u) run → IsRun sheet (history u) run
+  stays u s run b = subst (IsRun sheet (history u)) (sym (between-same (c .left u) run b)) (s .is)
+
+  abbrev AnsweredAt : ℕ → Type 0
+  AnsweredAt u = Answered (c .run u) (c .offers u) (c .outcomes u) (c .notes u) (c .tally u) (c .left (suc u)) (c .outcomes′ u) (c .notes′ u) (c .tally′ u) sheet (history u) (c .sentCount u)
 
   -- EACH SLOT IS DONE, by the rules, where the slice is the run after those before it
-  done-by : (u : ℕ) → u < n → IsRun sheet (history u) (c .run u) → DoneAt u
-  done-by u h is =
-      let k = length-first (c .offers) u in
-      c .slots u h .rules sheet made (history u) (omega arith) is .done
-      (record { offered = lent .offered u h; outcomes-fit = lent .outcomes-fit u h; notes-fit = lent .notes-fit u h })
-      (omega arith)
-      (fits-tally sheet made (after sheet (history u)) (c .offers u) (lent .offers-are u h) (c .tally u) (roomy u h))
+  answered-at : (u : ℕ) → u < n → Stands u → AnsweredAt u
+  answered-at u h s =
+      answered (c .run u) (c .offers u) (c .outcomes u) (c .notes u) (c .tally u) (c .left (suc u)) (c .outcomes′ u) (c .notes′ u) (c .tally′ u) sheet (history u) (c .sentCount u)
+      made (omega (arith, length-first (c .offers) u, s .most)) (stays u s (c .run u) (c .between u h)) (c .slots u h)
 
   -- AND IT IS THAT RUN
-  pub runs : (u : ℕ) → u ≤ n → IsRun sheet (history u) (c .run u)
+  stands : (u : ℕ) → u ≤ n → Stands u
   unfolding firstSlots
-  runs zero h = first-run
-  runs (suc u) h =
-      let d = done-by u h (runs u (omega arith)) in
-      is-run sheet (history (suc u)) (c .run (suc u)) (drop runNumbers (c .run u)) (d .run-is)
+  stands zero h = record { most = omega arith; is = is-run sheet [] (c .left 0) (drop runNumbers (c .start)) (passes .is) }
+  stands (suc u) h =
+      let a = answered-at u h (stands u (omega arith)) in
+      record {
+        most = omega (arith, length-first (c .offers) u, a .left);
+        is = is-run sheet (history (suc u)) (c .left (suc u)) (drop runNumbers (c .run u)) (a .done .run-is);
+      }
 
-  pub done : (u : ℕ) → u < n → DoneAt u
-  done u h = done-by u h (runs u (omega arith))
+  pub runs : (u : ℕ) → u ≤ n → (run : List ℕ) → Between (c .left u) run → IsRun sheet (history u) run
+  runs u h = stays u (stands u h)
+
+  pub done : (u : ℕ) → u < n
+      → Done sheet (history u) (c .run u) (c .offers u) (c .outcomes u) (c .notes u) (c .tally u) (c .left (suc u)) (c .outcomes′ u) (c .notes′ u) (c .tally′ u) (sent (c .sentCount u))
+  done u h = answered-at u h (stands u (omega arith)) .done
+
+  -- no more than a million
+  pub most : n ≤ mostSlots
+  most = stands n (omega arith) .most

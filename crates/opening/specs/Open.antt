@@ -66,3 +66,18 @@ one-opening bytes run after other a b all f g = go (le-or-lt runNumbers (length 
         let x = f .long-enough h (v .0) (v .1) in
         let y = g .long-enough h (v .0) (v .1) in
         (x .0 ∙ sym (y .0), x .1 ∙ sym (y .1))
+
+-- A REFUSED OPENING CHANGES NOTHING
+pub opened-or-refused : (number place : ℕ) → opened ≡ refused number place → ⊥
+opened-or-refused number place e =
+    let z : _≡_ {A = ℕ} 0 1 = cc in
+    omega arith
+
+pub unchanged : (bytes run after : List ℕ) (number place : ℕ) → AllBytes bytes → Opens bytes run after (refused number place) → after ≡ run
+unchanged bytes run after number place all o = go (le-or-lt runNumbers (length run)) (some-verdict bytes all)
+  where
+    go : (runNumbers ≤ length run) ⊎ (length run < runNumbers) → ((v : Case) × Says bytes v) → after ≡ run
+    go (inr h) v = o .too-short h .1
+    go (inl h) (passed slack t, s) = absurd (opened-or-refused number place (sym (o .long-enough h (passed slack t) s .0)))
+    go (inl h) (failed t, s) = o .long-enough h (failed t) s .1
+    go (inl h) (unreadable other at, s) = o .long-enough h (unreadable other at) s .1

@@ -110,7 +110,7 @@ module _ {X : Type 0} where
           (w .0, List·Memᴰ·tail (w .1), w .2)
 
   -- a test that passes less often among the members
-  count-le-in : (p q : X → Bool) (l : List X) → ((x : X) → List·Memᴰ x l → ind (p x) ≤ ind (q x)) → count p l ≤ count q l
+  pub count-le-in : (p q : X → Bool) (l : List X) → ((x : X) → List·Memᴰ x l → ind (p x) ≤ ind (q x)) → count p l ≤ count q l
   unfolding count
   count-le-in p q [] h = omega arith
   count-le-in p q (x ∷ l) h = omega (arith, h x (List·Memᴰ·head refl), count-le-in p q l (λ y m. h y (List·Memᴰ·tail m)))

@@ -20,3 +20,4 @@ pub mod Tables
 pub mod Examples
 pub mod Sums
 pub mod Which
+pub mod Numbered

@@ -15,7 +15,7 @@ use Rattle.sheet.specs.Sheet.{Sheet, sessionCount}
 use Rattle.rules.specs.Count.{ind, ind-and-left, not-both, count, count-some, count-no, countAll, countAll-le, countAll-le-in, countAll-lt, countTo}
 use Rattle.rules.specs.Core.{dueIn, due-upper, due-lower}
 use Rattle.rules.specs.Deadline.{later, come-later}
-use Rattle.rules.specs.Model.{Packet, ofSession, packet, sends, oneSlot, past}
+use Rattle.rules.specs.Model.{Packet, ofSession, packet, first, sends, oneSlot, past}
 use Rattle.rules.specs.Curves.{Curves}
 use Rattle.rules.specs.Order.{in-turn}
 use Rattle.rules.specs.Facts.{got, newPacket, new, all-conserved}
@@ -52,7 +52,7 @@ module _ (i : ℕ) (x : Packet) where
         go true e = lt-leb (x .number) n (l (owned e))
         go false e = refl
 
-    all-upTo : (x .owner ≡ suc i → x .number ≤ n) → ind (ofSession i x) ≤ ind (upToNumber i n x)
+    pub all-upTo : (x .owner ≡ suc i → x .number ≤ n) → ind (ofSession i x) ≤ ind (upToNumber i n x)
     unfolding ind
     all-upTo l = go (ofSession i x) refl
       where
@@ -92,20 +92,15 @@ module _ (sheet : Sheet) (told : ℕ → List ℕ) where
   unfolding newPacket packet
   owner-is t x a = ap (λ z. z .owner) (a .new .is)
 
-  -- of the packets sent in slot t + 1 and those left by it
-  sent-now : Curves sheet → (t : ℕ) (x y : Packet) → Arrived sheet told (suc t) x → Arrived sheet told (suc t) y
-      → List·Memᴰ x ((sends sheet (past sheet told t) (told t)) .0) → List·Memᴰ y ((sends sheet (past sheet told t) (told t)) .1)
-      → x .owner ≡ y .owner → x .number ≤ y .number
-  sent-now curves t x y a b m n o = go (le-or-lt (x .number) (y .number))
+  -- of two packets of a session the one that comes first has no higher number
+  pub comes-first : Curves sheet → (t : ℕ) (x y : Packet) → Arrived sheet told t x → Arrived sheet told t y → x .owner ≡ y .owner → first x y ≡ true → x .number ≤ y .number
+  comes-first curves t x y a b o f = go (le-or-lt (x .number) (y .number))
     where
       go : (x .number ≤ y .number) ⊎ (y .number < x .number) → x .number ≤ y .number
       go (inl k) = k
       go (inr k) =
-          let e : later (y .due) (x .due) ≡ x .due = rise sheet told curves (suc t) y x b a (sym o) (omega arith) in
-          in-turn x y
-          (λ s h. ((come-later (y .due) (x .due) s) .0 (rw (← (ap (λ d. come d s) e)) at h)) .0)
-          o
-          (sent-first sheet (past sheet told t) (told t) x y m n)
+          let e : later (y .due) (x .due) ≡ x .due = rise sheet told curves t y x b a (sym o) (omega arith) in
+          in-turn x y (λ s h. ((come-later (y .due) (x .due) s) .0 (rw (← (ap (λ d. come d s) e)) at h)) .0) o f
 
   -- IN TURN: no packet waits that has a lower number than one that was sent
   pub turn : Curves sheet → (t : ℕ) (l : List Packet) (x y : Packet) → List·Memᴰ l (past sheet told t .sent) → List·Memᴰ x l
@@ -129,7 +124,7 @@ module _ (sheet : Sheet) (told : ℕ → List ℕ) where
             within t (c .new .i) x c (owner-is t x c),
             new-above t (c .new .i) y p (sym o ∙ owner-is t x c),
           )
-      go a b ih (inr j) p = sent-now curves t x y a b (rw (List·Memᴰ·eq-of-singleton j) at m) n o
+      go a b ih (inr j) p = comes-first curves (suc t) x y a b o (sent-first sheet (past sheet told t) (told t) x y (rw (List·Memᴰ·eq-of-singleton j) at m) n)
 
   numbered : (i u n : ℕ) → i < sessionCount sheet
       → new sheet told (upToNumber i n) u ≡ countTo (λ q. leb (total (got sheet told i) u + q) n) (got sheet told i u)

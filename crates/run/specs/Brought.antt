@@ -74,6 +74,14 @@ test-within t e =
       sent = ltb-false mostTotal (t .sent) (d .1);
     }
 
+-- one or the other
+pub within-or-not : (t : Tally) → Within t ⊎ (Within t → ⊥)
+within-or-not t = go (tooMuch t) refl
+  where
+    go : (b : Bool) → tooMuch t ≡ b → Within t ⊎ (Within t → ⊥)
+    go false e = inl (test-within t e)
+    go true e = inr (λ w. true≢false (sym e ∙ within-test t w))
+
 pub passes-test : (t : Tally) → (Within t → ⊥) → tooMuch t ≡ true
 passes-test t n = go (tooMuch t) refl
   where
@@ -92,16 +100,12 @@ module _ (t : Tally) (s : Sums) (c : ℕ) where
   brought-much n = ap (λ (b : Bool). elim b [ true ↦ TooMuch | false ↦ Fits (totalsOf t s c) ]) (passes-test (totalsOf t s c) n)
 
   pub brought-which : (Within (totalsOf t s c) × (broughtUp t s c ≡ Fits (totalsOf t s c))) ⊎ ((Within (totalsOf t s c) → ⊥) × (broughtUp t s c ≡ TooMuch))
-  brought-which = go (tooMuch (totalsOf t s c)) refl
+  brought-which = go (within-or-not (totalsOf t s c))
     where
-      go : (b : Bool) → tooMuch (totalsOf t s c) ≡ b
+      go : Within (totalsOf t s c) ⊎ (Within (totalsOf t s c) → ⊥)
           → (Within (totalsOf t s c) × (broughtUp t s c ≡ Fits (totalsOf t s c))) ⊎ ((Within (totalsOf t s c) → ⊥) × (broughtUp t s c ≡ TooMuch))
-      go false e =
-          let w = test-within (totalsOf t s c) e in
-          inl (w, brought-fits w)
-      go true e =
-          let n : Within (totalsOf t s c) → ⊥ = λ w. true≢false (sym e ∙ within-test (totalsOf t s c) w) in
-          inr (n, brought-much n)
+      go (inl w) = inl (w, brought-fits w)
+      go (inr n) = inr (n, brought-much n)
 
   -- the code's answer: so many are sent, and no sum passes the most
   pub brought-by : (sent : ℕ) → sent ≡ sentIn s c

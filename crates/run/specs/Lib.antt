@@ -6,3 +6,4 @@ pub mod Decided
 pub mod Slot
 pub mod ByRules
 pub mod Exact
+pub mod Answered

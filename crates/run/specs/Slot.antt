@@ -123,7 +123,7 @@ abbrev sent-of : Reply → ℕ
 sent-of (sent n) = n
 sent-of (refused number place) = 0
 
-sent-or-refused : (k number place : ℕ) → sent k ≡ refused number place → ⊥
+pub sent-or-refused : (k number place : ℕ) → sent k ≡ refused number place → ⊥
 sent-or-refused k number place e =
     let z = ap (number-of (number + 1)) e in
     omega arith
