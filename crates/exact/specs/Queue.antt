@@ -10,11 +10,12 @@ use native.Mathlib.Decide.{ℕ-discrete}
 use lib.Dec.{T}
 use lib.ListN.{length, getD}
 use Rattle.curve.specs.Order.{le-or-lt}
-use Rattle.curve.specs.Delay.{slot, come}
+use Rattle.curve.specs.Delay.{come}
 use Rattle.sheet.specs.Limits.{mostSessions}
 use Rattle.layout.specs.Layout.{runNumbers, blockAt, deadlinesAt, ring}
 use Rattle.rules.specs.Count.{ind, count, count-some, count-witness}
 use Rattle.rules.specs.Pick.{extract, extract-count, extract-member, extract-first}
+use Rattle.rules.specs.Deadline.{dueAs}
 use Rattle.rules.specs.Model.{Packet, first}
 use Rattle.rules.specs.Order.{first-order, first-due, first-strict, in-turn}
 use Rattle.rules.specs.Turn.{upToNumber, own-upTo, none-upTo, upTo-is}
@@ -27,7 +28,7 @@ pub record Queued (run : List ℕ) (sessions : ℕ) (x : Packet) : Type 0 where
   pub i : ℕ
   pub session : i < sessions
   pub owner : x .owner ≡ suc i
-  pub due : x .due ≡ slot (getD run (blockAt i + (deadlinesAt + (x .number - 1) % ring)) 0)
+  pub due : x .due ≡ dueAs (getD run (blockAt i + (deadlinesAt + (x .number - 1) % ring)) 0)
 
 -- l is what waits in the run: of each session the numbers after those sent, up to those taken in, each once, with deadlines that never fall
 pub record Queue (run : List ℕ) (sessions : ℕ) (l : List Packet) : Type 0 where
@@ -39,7 +40,7 @@ pub record Queue (run : List ℕ) (sessions : ℕ) (l : List Packet) : Type 0 wh
 pub record Head (run : List ℕ) (i : ℕ) (x : Packet) : Type 0 where
   pub owner : x .owner ≡ suc i
   pub number : x .number ≡ sentOf run i + 1
-  pub due : x .due ≡ slot (headDue run i)
+  pub due : x .due ≡ dueAs (headDue run i)
 
 module _ (run : List ℕ) (sessions : ℕ) (l : List Packet) (q : Queue run sessions l) where
   -- a packet that waits has a number after those sent and up to those taken in
@@ -57,7 +58,7 @@ module _ (run : List ℕ) (sessions : ℕ) (l : List Packet) (q : Queue run sess
       record {
         owner = o;
         number = n;
-        due = w .due ∙ ap (λ j. slot (getD run (blockAt j + (deadlinesAt + (x .number - 1) % ring)) 0)) same ∙ ap (λ k. slot (getD run (blockAt i + (deadlinesAt + k % ring)) 0)) back;
+        due = w .due ∙ ap (λ j. dueAs (getD run (blockAt j + (deadlinesAt + (x .number - 1) % ring)) 0)) same ∙ ap (λ k. dueAs (getD run (blockAt i + (deadlinesAt + k % ring)) 0)) back;
       }
 
   -- where packets of a session wait, its first is among them
@@ -137,7 +138,7 @@ module _ (run : List ℕ) (sessions : ℕ) (y : Packet) (ys : List Packet) (q : 
       i = w .i;
       session = w .session;
       owner = w .owner;
-      due = w .due ∙ sym (ap slot (raised-other run r (blockAt (w .i) + (deadlinesAt + (x .number - 1) % ring)) (omega arith)));
+      due = w .due ∙ sym (ap dueAs (raised-other run r (blockAt (w .i) + (deadlinesAt + (x .number - 1) % ring)) (omega arith)));
     }
 
     raised-numbers : (r : ℕ) → r < sessions → Head run r ((extract first y ys) .0) → (i n : ℕ) → i < sessions

@@ -12,7 +12,7 @@ use Rattle.curve.specs.Delay.{Due, slot, slotsOf, delay, delay-slot}
 use Rattle.sheet.specs.Limits.{mostSessions}
 use Rattle.sheet.specs.Sheet.{Session, Sheet, WellMade, WellMadeSession, session, sessionCount}
 use Rattle.rules.specs.Count.{countAll}
-use Rattle.rules.specs.Deadline.{shift, deadline}
+use Rattle.rules.specs.Deadline.{shift, deadline, dueAs}
 use Rattle.rules.specs.Model.{delayOf, ofSession, waitingOf, packet, joined, past, sends}
 use Rattle.rules.specs.Curves.{Curves, made-curves}
 use Rattle.rules.specs.Facts.{got, slots, got-eq, newPacket}
@@ -139,7 +139,7 @@ module _ (sheet : Sheet) (made : WellMade sheet) (told : ℕ → List ℕ) (t : 
 
   -- THE DEADLINE of each waiting packet stands in its place
   taken-due : (i u q : ℕ) → i < sessionCount sheet → u ≤ t → 1 ≤ q → q ≤ gets i u → went i < total (gets i) u + q
-      → newPacket sheet told i u q .due ≡ slot (getD taken (blockAt i + (deadlinesAt + (total (gets i) u + q - 1) % ring)) 0)
+      → newPacket sheet told i u q .due ≡ dueAs (getD taken (blockAt i + (deadlinesAt + (total (gets i) u + q - 1) % ring)) 0)
   unfolding newPacket packet delayOf
   taken-due i u q h l one most after =
       let P = sheet .period in

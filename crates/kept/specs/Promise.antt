@@ -5,10 +5,10 @@ use mathlib.Core.Path.{_≡_}
 use Prim.Native.Nat.{ℕ, suc, _+_, _-_, _≤_, _<_}
 use lib.Dec.{T}
 use Rattle.curve.specs.Total.{total}
-use Rattle.curve.specs.Delay.{Due, slot, come}
+use Rattle.curve.specs.Delay.{Due, come}
 use Rattle.sheet.specs.Sheet.{Sheet, session, sessionCount}
 use Rattle.sheet.specs.Bytes.{sheetOf}
-use Rattle.rules.specs.Deadline.{deadline}
+use Rattle.rules.specs.Deadline.{deadline, dueAs}
 use Rattle.rules.specs.Model.{envelopeOf, serviceOf, delayOf, promised}
 use Rattle.layout.specs.Sound.{mostSlots}
 use Rattle.kept.specs.Calls.{Calls, offeredIn, tookIn, overIn, noRoomIn, noteSession, notePacket, noteDeadline, sentIn}
@@ -38,7 +38,7 @@ module _ (bytes : List ℕ) (n : ℕ) (c : Calls bytes n) where
     pub among : j < c .sentCount v
     pub session-is : noteSession bytes n c v j ≡ suc i
     pub packet-is : notePacket bytes n c v j ≡ N
-    pub deadline-is : due ≡ slot (noteDeadline bytes n c v j)
+    pub deadline-is : due ≡ dueAs (noteDeadline bytes n c v j)
 
   -- packet N of session i was sent in one of the slots 1..t, and noted there with its deadline
   pub record WasSent (i N : ℕ) (due : Due) (t : ℕ) : Type 0 where

@@ -2,13 +2,18 @@
 -- Assumes nothing.
 use mathlib.Core.Path.{_≡_, _∙_}
 use mathlib.Core.Logic.{_⊎_, inl, inr}
-use mathlib.Core.List.{List, [], _∷_, List·Memᴰ, List·Memᴰ·not-nil, List·Memᴰ·append-cases, List·Memᴰ·eq-of-singleton}
+use mathlib.Core.List.{List, [], _∷_, _++_, List·Memᴰ, List·Memᴰ·not-nil, List·Memᴰ·append-cases, List·Memᴰ·eq-of-singleton}
 use Prim.Native.Nat.{ℕ, zero, suc, _≤_, _<_}
 use native.Mathlib.Omega.{arith}
+use lib.ListN.{length}
 use Rattle.sheet.specs.Sheet.{Sheet, sessionCount}
 use Rattle.rules.specs.Pick.{send-member}
-use Rattle.rules.specs.Model.{Packet, took, upTo, joined, packet, arrivals, first, sends, oneSlot, past}
+use Rattle.rules.specs.Model.{Packet, took, takenIn, upTo, joined, packet, arrivals, first, sends, oneSlot, past}
 use Rattle.rules.specs.Facts.{got, newPacket, packet-got, slots, took-got}
+
+-- THE PACKETS THAT WAIT TOGETHER in slot t + 1: those that waited at the end of slot t, and those that it took in
+abbrev pub together : Sheet → (ℕ → List ℕ) → ℕ → List Packet
+together sheet told t = past sheet told t .waiting ++ arrivals sheet (took (takenIn sheet (past sheet told t) (told t))) (length (past sheet told t .taken))
 
 -- a member of f 1, .., f n
 record Within {X : Type 0} (f : ℕ → X) (n : ℕ) (x : X) : Type 0 where
@@ -82,16 +87,30 @@ module _ (sheet : Sheet) (told : ℕ → List ℕ) where
             is = w .is ∙ packet-got sheet told u (o .i) (w .q) (o .less);
           }
 
+  -- those that wait together in slot t + 1 waited before it or are new
+  together-which : (t : ℕ) (x : Packet) → List·Memᴰ x (together sheet told t) → List·Memᴰ x (past sheet told t .waiting) ⊎ New sheet told t x
+  unfolding past oneSlot
+  together-which t x m =
+      elim (List·Memᴰ·append-cases (past sheet told t .waiting) (rw (slots sheet told t) at m)) [
+        | inl k ↦ inl k
+        | inr k ↦ inr (arrivals-new t x k)
+      ]
+
+  -- what slot t + 1 sent, and what it left, waited together
+  pub sent-together : (t : ℕ) (x : Packet) → List·Memᴰ x ((sends sheet (past sheet told t) (told t)) .0) → List·Memᴰ x (together sheet told t)
+  unfolding sends
+  sent-together t x m = send-member first (sheet .capacity) _ x (inl m)
+
+  pub left-together : (t : ℕ) (x : Packet) → List·Memᴰ x ((sends sheet (past sheet told t) (told t)) .1) → List·Memᴰ x (together sheet told t)
+  unfolding sends
+  left-together t x m = send-member first (sheet .capacity) _ x (inr m)
+
   -- what slot t + 1 had to choose from
   pub chosen : (t : ℕ) (x : Packet)
       → List·Memᴰ x ((sends sheet (past sheet told t) (told t)) .0) ⊎ List·Memᴰ x ((sends sheet (past sheet told t) (told t)) .1)
       → List·Memᴰ x (past sheet told t .waiting) ⊎ New sheet told t x
-  unfolding past oneSlot sends
-  chosen t x m =
-      elim (List·Memᴰ·append-cases (past sheet told t .waiting) (rw (slots sheet told t) at (send-member first (sheet .capacity) _ x m))) [
-        | inl k ↦ inl k
-        | inr k ↦ inr (arrivals-new t x k)
-      ]
+  chosen t x (inl m) = together-which t x (sent-together t x m)
+  chosen t x (inr m) = together-which t x (left-together t x m)
 
   arrived : (t : ℕ) (x : Packet) → ((y : Packet) → List·Memᴰ y (past sheet told t .waiting) → Arrived sheet told t y)
       → List·Memᴰ x (past sheet told t .waiting) ⊎ New sheet told t x → Arrived sheet told (suc t) x
@@ -103,6 +122,10 @@ module _ (sheet : Sheet) (told : ℕ → List ℕ) where
   unfolding past oneSlot
   waiting-arrived zero x m = absurd (List·Memᴰ·not-nil m)
   waiting-arrived (suc t) x m = arrived t x (waiting-arrived t) (chosen t x (inr m))
+
+  -- what waits together in slot t + 1
+  pub together-arrived : (t : ℕ) (x : Packet) → List·Memᴰ x (together sheet told t) → Arrived sheet told (suc t) x
+  together-arrived t x m = arrived t x (waiting-arrived t) (together-which t x m)
 
   -- and what was sent in any slot up to t
   pub sent-arrived : (t : ℕ) (l : List Packet) (x : Packet) → List·Memᴰ l (past sheet told t .sent) → List·Memᴰ x l → Arrived sheet told t x

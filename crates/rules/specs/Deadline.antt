@@ -29,6 +29,10 @@ unfoldable pub deadline : (ℕ → Due) → (ℕ → ℕ) → ℕ → ℕ → Du
 deadline D a N zero = slot 0
 deadline D a N (suc j) = later (deadline D a N j) (ifAny (a j) (shift j (D (N - total a j))))
 
+-- the deadline that a number stands for, in the run and in what a slot writes
+abbrev pub dueAs : ℕ → Due
+dueAs n = slot n
+
 -- K2, where D(q) is q: of 3 packets taken in in slot 1 the first is due in slot 1; the next, taken in in slot 2, is due in slot 4, since slot 1 binds it too
 k2-intake : ℕ → ℕ
 k2-intake zero = 3

@@ -3,7 +3,7 @@
 use mathlib.Core.Path.{_≡_, sym, ap, _∙_}
 use mathlib.Core.Logic.{_⊎_, inl, inr}
 use mathlib.Core.Bool.{true}
-use mathlib.Core.List.{List, List·Memᴰ}
+use mathlib.Core.List.{List, List·Memᴰ, Memᴰ·append-left}
 use Prim.Native.Nat.{ℕ, suc, _+_, _-_, _≤_, _<_}
 use native.Mathlib.Omega.{arith}
 use lib.ListN.{length}
@@ -19,7 +19,7 @@ use Rattle.rules.specs.Model.{takenBy}
 use Rattle.rules.specs.Curves.{Curves, service-rises, envelope-rises, delays, delay-some}
 use Rattle.rules.specs.Order.{first-order}
 use Rattle.rules.specs.Facts.{got, newPacket, envelope-kept}
-use Rattle.rules.specs.Arrived.{Arrived, waiting-arrived, sent-arrived}
+use Rattle.rules.specs.Arrived.{together, together-arrived}
 use Rattle.rules.specs.Intake.{taken-split, all-split}
 use Rattle.rules.specs.Main.{taken-got}
 use Rattle.rules.specs.Base.{offersOf, after-past}
@@ -51,15 +51,7 @@ module _ (sheet : Sheet) (p : Past) where
     unfolding sends
     none-held = send-full first (sheet .capacity) _
 
--- a packet that waits in a past, or was sent in one of its slots
-abbrev pub Seen : Past → Packet → Type 0
-Seen p x = List·Memᴰ x (p .waiting) ⊎ ((l : List Packet) × List·Memᴰ l (p .sent) × List·Memᴰ x l)
-
 module _ (sheet : Sheet) (told : ℕ → List ℕ) where
-  seen-arrived : (t : ℕ) (x : Packet) → Seen (past sheet told t) x → Arrived sheet told t x
-  seen-arrived t x (inl m) = waiting-arrived sheet told t x m
-  seen-arrived t x (inr (l, k, m)) = sent-arrived sheet told t l x k m
-
   new-rise : Curves sheet → (i u q v r : ℕ) → i < sessionCount sheet → 1 ≤ q → r ≤ got sheet told i v → 1 ≤ r
       → newPacket sheet told i u q .number ≤ newPacket sheet told i v r .number
       → later (newPacket sheet told i u q .due) (newPacket sheet told i v r .due) ≡ newPacket sheet told i v r .due
@@ -72,10 +64,13 @@ module _ (sheet : Sheet) (told : ℕ → List ℕ) where
       in-turn (inl k) = k
       in-turn (inr k) = absurd (omega (arith, total-mono (got sheet told i) (suc v) u k))
 
-  pub rise : Curves sheet → (t : ℕ) (x y : Packet) → Arrived sheet told t x → Arrived sheet told t y → x .owner ≡ y .owner → x .number ≤ y .number
+  -- DEADLINES NEVER FALL with the packet number: of two packets of a session that wait together the one with the higher number is due no earlier
+  pub rise : Curves sheet → (t : ℕ) (x y : Packet) → List·Memᴰ x (together sheet told t) → List·Memᴰ y (together sheet told t) → x .owner ≡ y .owner → x .number ≤ y .number
       → later (x .due) (y .due) ≡ y .due
   unfolding newPacket packet
-  rise curves t x y a b o n =
+  rise curves t x y m k o n =
+      let a = together-arrived sheet told t x m in
+      let b = together-arrived sheet told t y k in
       let same : b .new .i ≡ a .new .i = omega (arith, ap (λ z. z .owner) (a .new .is), ap (λ z. z .owner) (b .new .is)) in
       let is : y ≡ newPacket sheet told (a .new .i) (b .u) (b .new .q) = b .new .is ∙ ap (λ j. newPacket sheet told j (b .u) (b .new .q)) same in
       let most : b .new .q ≤ got sheet told (a .new .i) (b .u) = omega (arith, b .new .most, ap (λ j. got sheet told j (b .u)) same) in
@@ -111,14 +106,14 @@ module _ (sheet : Sheet) (history : List (List ℕ)) where
         all-split sheet told t,
       ))
 
-  -- DEADLINES NEVER FALL with the packet number: of two packets of a session the later deadline is that of the higher number
-  pub deadlines-rise : Curves sheet → (x y : Packet) → Seen (after sheet history) x → Seen (after sheet history) y
+  -- so of the packets that wait at the end of a slot
+  pub deadlines-rise : Curves sheet → (x y : Packet) → List·Memᴰ x (after sheet history .waiting) → List·Memᴰ y (after sheet history .waiting)
       → x .owner ≡ y .owner → x .number ≤ y .number
       → later (x .due) (y .due) ≡ y .due
   deadlines-rise curves x y a b =
       let t = length history in
       let told = offersOf history in
-      rise sheet told curves t x y (seen-arrived sheet told t x (rw run-is at a)) (seen-arrived sheet told t y (rw run-is at b))
+      rise sheet told curves t x y (Memᴰ·append-left _ (rw run-is at a)) (Memᴰ·append-left _ (rw run-is at b))
 
   -- HEADROOM is never cut off at 0: A(u) is at most A(s) + b(u+1-s)
   pub headroom-whole : Curves sheet → (i s u : ℕ) → i < sessionCount sheet → s ≤ u → u ≤ length history

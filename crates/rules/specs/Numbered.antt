@@ -11,7 +11,7 @@ use Rattle.rules.specs.Count.{ind, ind-and-left, count, count-append, co
 use Rattle.rules.specs.Pick.{Ordered}
 use Rattle.rules.specs.Model.{Packet, ofSession, first, sends, oneSlot, past}
 use Rattle.rules.specs.Curves.{Curves}
-use Rattle.rules.specs.Arrived.{Arrived, sent-arrived}
+use Rattle.rules.specs.Arrived.{Arrived, together, sent-together, sent-arrived}
 use Rattle.rules.specs.Laws.{sent-in-order}
 use Rattle.rules.specs.Turn.{upToNumber, own-test, own-upTo, none-upTo, all-upTo, comes-first, sent-numbers}
 
@@ -54,20 +54,20 @@ module _ (sheet : Sheet) (told : ℕ → List ℕ) where
       in-order : Ordered first (before ++ (x ∷ others))
       in-order = subst (Ordered first) is (sent-in-order sheet (past sheet told v) (told v))
 
-      came : (y : Packet) → List·Memᴰ y (before ++ (x ∷ others)) → Arrived sheet told (suc v) y
-      came y m = sends-arrived v y (rw is m)
+      waited : (y : Packet) → List·Memᴰ y (before ++ (x ∷ others)) → List·Memᴰ y (together sheet told v)
+      waited y m = sent-together sheet told v y (rw is m)
 
-      x-came : Arrived sheet told (suc v) x
-      x-came = came x (Memᴰ·append-right before (List·Memᴰ·head refl))
+      x-waited : List·Memᴰ x (together sheet told v)
+      x-waited = waited x (Memᴰ·append-right before (List·Memᴰ·head refl))
 
       -- those of the session before it have no higher number, those after it no lower
       not-higher : (y : Packet) → List·Memᴰ y before → y .owner ≡ suc i → y .number ≤ x .number
       not-higher y m p =
-          comes-first sheet told curves (suc v) y x (came y (Memᴰ·append-left (x ∷ others) m)) x-came (p ∙ sym o) (after-those first x others before in-order y m)
+          comes-first sheet told curves v y x (waited y (Memᴰ·append-left (x ∷ others) m)) x-waited (p ∙ sym o) (after-those first x others before in-order y m)
 
       not-lower : (y : Packet) → List·Memᴰ y others → y .owner ≡ suc i → x .number ≤ y .number
       not-lower y m p =
-          comes-first sheet told curves (suc v) x y x-came (came y (Memᴰ·append-right before (List·Memᴰ·tail m))) (o ∙ sym p) (before-those first x others before in-order y m)
+          comes-first sheet told curves v x y x-waited (waited y (Memᴰ·append-right before (List·Memᴰ·tail m))) (o ∙ sym p) (before-those first x others before in-order y m)
 
       split : (q : Packet → Bool) → count q ((sends sheet (past sheet told v) (told v)) .0) ≡ count q before + (ind (q x) + count q others)
       unfolding count

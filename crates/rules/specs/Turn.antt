@@ -19,7 +19,7 @@ use Rattle.rules.specs.Model.{Packet, ofSession, packet, first, sends, o
 use Rattle.rules.specs.Curves.{Curves}
 use Rattle.rules.specs.Order.{in-turn}
 use Rattle.rules.specs.Facts.{got, newPacket, new, all-conserved}
-use Rattle.rules.specs.Arrived.{New, Arrived, chosen, waiting-arrived, sent-arrived}
+use Rattle.rules.specs.Arrived.{New, Arrived, together, chosen, sent-together, left-together, waiting-arrived, sent-arrived}
 use Rattle.rules.specs.Intake.{new-of, taken-split}
 use Rattle.rules.specs.Laws.{sent-first, rise}
 
@@ -92,8 +92,8 @@ module _ (sheet : Sheet) (told : ℕ → List ℕ) where
   unfolding newPacket packet
   owner-is t x a = ap (λ z. z .owner) (a .new .is)
 
-  -- of two packets of a session the one that comes first has no higher number
-  pub comes-first : Curves sheet → (t : ℕ) (x y : Packet) → Arrived sheet told t x → Arrived sheet told t y → x .owner ≡ y .owner → first x y ≡ true → x .number ≤ y .number
+  -- of two packets of a session that wait together the one that comes first has no higher number
+  pub comes-first : Curves sheet → (t : ℕ) (x y : Packet) → List·Memᴰ x (together sheet told t) → List·Memᴰ y (together sheet told t) → x .owner ≡ y .owner → first x y ≡ true → x .number ≤ y .number
   comes-first curves t x y a b o f = go (le-or-lt (x .number) (y .number))
     where
       go : (x .number ≤ y .number) ⊎ (y .number < x .number) → x .number ≤ y .number
@@ -108,23 +108,23 @@ module _ (sheet : Sheet) (told : ℕ → List ℕ) where
   unfolding past oneSlot
   turn curves zero l x y k m n o = absurd (List·Memᴰ·not-nil k)
   turn curves (suc t) l x y k m n o =
-      go (sent-arrived sheet told (suc t) l x k m) (waiting-arrived sheet told (suc t) y n) (λ j p. turn curves t l x y j m p o)
-      (List·Memᴰ·append-cases (past sheet told t .sent) k) (chosen sheet told t y (inr n))
+      go (λ j p. turn curves t l x y j m p o) (List·Memᴰ·append-cases (past sheet told t .sent) k) (chosen sheet told t y (inr n))
     where
-      go : Arrived sheet told (suc t) x → Arrived sheet told (suc t) y
-          → (List·Memᴰ l (past sheet told t .sent) → List·Memᴰ y (past sheet told t .waiting) → x .number ≤ y .number)
+      go : (List·Memᴰ l (past sheet told t .sent) → List·Memᴰ y (past sheet told t .waiting) → x .number ≤ y .number)
           → List·Memᴰ l (past sheet told t .sent) ⊎ List·Memᴰ l ((sends sheet (past sheet told t) (told t)) .0 ∷ [])
           → List·Memᴰ y (past sheet told t .waiting) ⊎ New sheet told t y
           → x .number ≤ y .number
-      go a b ih (inl j) (inl p) = ih j p
-      go a b ih (inl j) (inr p) =
+      go ih (inl j) (inl p) = ih j p
+      go ih (inl j) (inr p) =
           let c = sent-arrived sheet told t l x j m in
           omega (
             arith,
             within t (c .new .i) x c (owner-is t x c),
             new-above t (c .new .i) y p (sym o ∙ owner-is t x c),
           )
-      go a b ih (inr j) p = comes-first curves (suc t) x y a b o (sent-first sheet (past sheet told t) (told t) x y (rw (List·Memᴰ·eq-of-singleton j) at m) n)
+      go ih (inr j) p =
+          let now = rw (List·Memᴰ·eq-of-singleton j) at m in
+          comes-first curves t x y (sent-together sheet told t x now) (left-together sheet told t y n) o (sent-first sheet (past sheet told t) (told t) x y now n)
 
   numbered : (i u n : ℕ) → i < sessionCount sheet
       → new sheet told (upToNumber i n) u ≡ countTo (λ q. leb (total (got sheet told i) u + q) n) (got sheet told i u)

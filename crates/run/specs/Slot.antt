@@ -13,7 +13,7 @@ use Rattle.send.specs.Sent.{sendCount-most}
 use Rattle.intake.specs.Intakes.{intakesOf, outcomesOf}
 use Rattle.run.specs.Summed.{sumsOf}
 use Rattle.run.specs.Brought.{Within, totalsOf, broughtUp, brought-which}
-use Rattle.run.specs.Why.{capacityOf, periodOf, countOf, doneOf, Fit, Why, one-why, fit-of, why-few}
+use Rattle.run.specs.Why.{capacityOf, periodOf, countOf, doneOf, Fit, Why, one-why, fit-of, not-18}
 use Rattle.run.specs.declared.Answer.{Answer}
 use Rattle.run.specs.declared.Answer.the-variants.{Sent, Refused}
 use Rattle.run.specs.declared.tally.Tally.{Tally}
@@ -135,7 +135,7 @@ module _ (run offers outcomes notes : List ℕ) (tally : Tally) (run′ outcomes
       go : Dec (s .why ≡ 0) → SlotWhich run offers tally → Fit run offers (length outcomes) (length notes) × (slotBrings run offers tally ≡ TooMuch)
       go (no d) w =
           let z = ap (number-of 0) (sym (s .refuses d .answers) ∙ e) in
-          absurd (omega (arith, z, why-few run offers (length outcomes) (length notes) (s .why) (s .because)))
+          absurd (not-18 run offers (length outcomes) (length notes) (s .why) (s .because) z)
       go (yes d) (inl w) = absurd (sent-or-refused _ 18 0 (sym (s .fits d _ (w .1) .answers) ∙ e))
       go (yes d) (inr w) = (fit-of run offers (length outcomes) (length notes) (s .why) (s .because) d, w .1)
 

@@ -127,13 +127,14 @@ module _ (run offers : List ℕ) (outs sents : ℕ) where
   fit-of r (spent h o q a b d) e = absurd (omega arith)
   fit-of r (none f) e = f
 
-  pub why-few : (r : ℕ) → Why run offers outs sents r → r < 18
-  why-few r (short h) = omega arith
-  why-few r (closed h n) = omega arith
-  why-few r (amiss h o n) = omega arith
-  why-few r (scant h o q x) = omega arith
-  why-few r (spent h o q a b d) = omega arith
-  why-few r (none f) = omega arith
+  -- 18 is no refusal of the slices: it comes after all of these
+  pub not-18 : (r : ℕ) → Why run offers outs sents r → r ≢ 18
+  not-18 r (short h) e = omega arith
+  not-18 r (closed h n) e = omega arith
+  not-18 r (amiss h o n) e = omega arith
+  not-18 r (scant h o q x) e = omega arith
+  not-18 r (spent h o q a b d) e = omega arith
+  not-18 r (none f) e = omega arith
 
   -- what the intake asks
   pub fit-sound : Fit run offers outs sents → AllSound run (countOf run) (periodOf run) (doneOf run)
