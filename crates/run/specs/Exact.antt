@@ -174,7 +174,7 @@ module _ (run offers outcomes notes : List ℕ) (tally : Tally) (run′ outcomes
 
   -- THE SLOT, where the machine's is done
   slot-done : Fitting sheet history run offers outcomes notes tally run′ outcomes′ notes′ tally′ reply
-      → Runs run offers outcomes notes (slotTotals run offers tally) run′ outcomes′ notes′ tally′ reply
+      → Runs (capacityOf run) run offers outcomes notes (slotTotals run offers tally) run′ outcomes′ notes′ tally′ reply
       → Done sheet history run offers outcomes notes tally run′ outcomes′ notes′ tally′ reply
   unfolding runAfter
   slot-done f r =

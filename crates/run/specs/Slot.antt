@@ -29,12 +29,18 @@ abbrev pub told : Answer → Reply
 told (Sent k) = sent k
 told (Refused number place) = refused number place
 
--- the slot's sums, and what they make of a tally
+-- the sums of a slot in which the link sends up to so many packets, and what they make of a tally; the run's own capacity is c
+abbrev pub bringsWith : ℕ → List ℕ → List ℕ → Tally → Brought
+bringsWith capacity run offers tally = broughtUp tally (sumsOf run offers (countOf run)) capacity
+
+abbrev pub totalsWith : ℕ → List ℕ → List ℕ → Tally → Tally
+totalsWith capacity run offers tally = totalsOf tally (sumsOf run offers (countOf run)) capacity
+
 abbrev pub slotBrings : List ℕ → List ℕ → Tally → Brought
-slotBrings run offers tally = broughtUp tally (sumsOf run offers (countOf run)) (capacityOf run)
+slotBrings run = bringsWith (capacityOf run) run
 
 abbrev pub slotTotals : List ℕ → List ℕ → Tally → Tally
-slotTotals run offers tally = totalsOf tally (sumsOf run offers (countOf run)) (capacityOf run)
+slotTotals run = totalsWith (capacityOf run) run
 
 -- the run when all sessions have had their intake
 abbrev pub takenIn : List ℕ → List ℕ → List ℕ
@@ -48,12 +54,12 @@ pub record Refuses (number : ℕ) (run outcomes notes : List ℕ) (tally : Tally
   pub notes-are : notes′ ≡ notes
   pub tally-is : tally′ ≡ tally
 
--- a slot done
-pub record Runs (run offers outcomes notes : List ℕ) (after : Tally) (run′ outcomes′ notes′ : List ℕ) (tally′ : Tally) (reply : Reply) : Type 0 where
-  pub answers : reply ≡ sent (sendCount (takenIn run offers) (countOf run) (capacityOf run))
-  pub run-is : run′ ≡ set (sendRun (takenIn run offers) (countOf run) (capacityOf run)) doneAt (doneOf run + 1)
+-- a slot done, in which the link sends up to so many packets
+pub record Runs (capacity : ℕ) (run offers outcomes notes : List ℕ) (after : Tally) (run′ outcomes′ notes′ : List ℕ) (tally′ : Tally) (reply : Reply) : Type 0 where
+  pub answers : reply ≡ sent (sendCount (takenIn run offers) (countOf run) capacity)
+  pub run-is : run′ ≡ set (sendRun (takenIn run offers) (countOf run) capacity) doneAt (doneOf run + 1)
   pub outcomes-are : outcomes′ ≡ outcomesOf run offers outcomes (countOf run)
-  pub notes-are : notes′ ≡ sendNotes (takenIn run offers) notes (countOf run) (capacityOf run)
+  pub notes-are : notes′ ≡ sendNotes (takenIn run offers) notes (countOf run) capacity
   pub tally-is : tally′ ≡ after
 
 -- SLOT: 13 to 17 in their order, then 18 exactly where a total would be too much, then the slot
@@ -62,7 +68,7 @@ pub record Slots (run offers outcomes notes : List ℕ) (tally : Tally) (run′ 
   pub because : Why run offers (length outcomes) (length notes) why
   pub refuses : why ≢ 0 → Refuses why run outcomes notes tally run′ outcomes′ notes′ tally′ reply
   pub too-much : why ≡ 0 → slotBrings run offers tally ≡ TooMuch → Refuses 18 run outcomes notes tally run′ outcomes′ notes′ tally′ reply
-  pub fits : why ≡ 0 → (after : Tally) → slotBrings run offers tally ≡ Fits after → Runs run offers outcomes notes after run′ outcomes′ notes′ tally′ reply
+  pub fits : why ≡ 0 → (after : Tally) → slotBrings run offers tally ≡ Fits after → Runs (capacityOf run) run offers outcomes notes after run′ outcomes′ notes′ tally′ reply
 
 -- a slot's totals fit, or are too much
 abbrev pub SlotWhich : List ℕ → List ℕ → Tally → Type 0
@@ -103,7 +109,7 @@ module _ (run offers outcomes notes : List ℕ) (tally : Tally) where
   }
 
   pub slots-run : (after : Tally) (run′ outcomes′ notes′ : List ℕ) (reply : Reply) → Fit run offers (length outcomes) (length notes) → slotBrings run offers tally ≡ Fits after
-      → Runs run offers outcomes notes after run′ outcomes′ notes′ after reply
+      → Runs (capacityOf run) run offers outcomes notes after run′ outcomes′ notes′ after reply
       → Slots run offers outcomes notes tally run′ outcomes′ notes′ after reply
   slots-run after run′ outcomes′ notes′ reply f e r = record {
     why = 0;
@@ -140,11 +146,11 @@ module _ (run offers outcomes notes : List ℕ) (tally : Tally) (run′ outcomes
       go (yes d) (inr w) = (fit-of run offers (length outcomes) (length notes) (s .why) (s .because) d, w .1)
 
   pub slots-sent : (k : ℕ) → reply ≡ sent k
-      → Fit run offers (length outcomes) (length notes) × (slotBrings run offers tally ≡ Fits (slotTotals run offers tally)) × Runs run offers outcomes notes (slotTotals run offers tally) run′ outcomes′ notes′ tally′ reply
+      → Fit run offers (length outcomes) (length notes) × (slotBrings run offers tally ≡ Fits (slotTotals run offers tally)) × Runs (capacityOf run) run offers outcomes notes (slotTotals run offers tally) run′ outcomes′ notes′ tally′ reply
   slots-sent k e = go (ℕ-discrete (s .why) 0) (slot-which run offers tally)
     where
       go : Dec (s .why ≡ 0) → SlotWhich run offers tally
-          → Fit run offers (length outcomes) (length notes) × (slotBrings run offers tally ≡ Fits (slotTotals run offers tally)) × Runs run offers outcomes notes (slotTotals run offers tally) run′ outcomes′ notes′ tally′ reply
+          → Fit run offers (length outcomes) (length notes) × (slotBrings run offers tally ≡ Fits (slotTotals run offers tally)) × Runs (capacityOf run) run offers outcomes notes (slotTotals run offers tally) run′ outcomes′ notes′ tally′ reply
       go (no d) w = absurd (sent-or-refused k _ 0 (sym e ∙ s .refuses d .answers))
       go (yes d) (inl w) = (fit-of run offers (length outcomes) (length notes) (s .why) (s .because) d, w .1, s .fits d _ (w .1))
       go (yes d) (inr w) = absurd (sent-or-refused k 18 0 (sym e ∙ s .too-much d (w .1) .answers))
@@ -156,14 +162,14 @@ module _ (run offers outcomes notes : List ℕ) (tally : Tally) (run′ outcomes
       omega (arith, ap sent-of (sym e ∙ d .2 .answers), sendCount-most (takenIn run offers) (countOf run) (capacityOf run), d .0 .opened .capacity)
 
 -- the sending's part of a slot done
-pub runs-by : (run offers outcomes notes taken sent′ outcomes′ notes′ : List ℕ) (k : ℕ) (after : Tally) → taken ≡ takenIn run offers → outcomes′ ≡ outcomesOf run offers outcomes (countOf run)
-    → SentAll taken notes (countOf run) (capacityOf run) sent′ notes′ k
-    → Runs run offers outcomes notes after (set sent′ doneAt (doneOf run + 1)) outcomes′ notes′ after (sent k)
-runs-by run offers outcomes notes taken sent′ outcomes′ notes′ k after e f s = record {
-  answers = ap sent (s .went ∙ ap (λ (l : List ℕ). sendCount l (countOf run) (capacityOf run)) e);
-  run-is = ap (λ (l : List ℕ). set l doneAt (doneOf run + 1)) (s .run-is ∙ ap (λ (l : List ℕ). sendRun l (countOf run) (capacityOf run)) e);
+pub runs-by : (capacity : ℕ) (run offers outcomes notes taken sent′ outcomes′ notes′ : List ℕ) (k : ℕ) (after : Tally) → taken ≡ takenIn run offers → outcomes′ ≡ outcomesOf run offers outcomes (countOf run)
+    → SentAll taken notes (countOf run) capacity sent′ notes′ k
+    → Runs capacity run offers outcomes notes after (set sent′ doneAt (doneOf run + 1)) outcomes′ notes′ after (sent k)
+runs-by capacity run offers outcomes notes taken sent′ outcomes′ notes′ k after e f s = record {
+  answers = ap sent (s .went ∙ ap (λ (l : List ℕ). sendCount l (countOf run) capacity) e);
+  run-is = ap (λ (l : List ℕ). set l doneAt (doneOf run + 1)) (s .run-is ∙ ap (λ (l : List ℕ). sendRun l (countOf run) capacity) e);
   outcomes-are = f;
-  notes-are = s .notes-are ∙ ap (λ (l : List ℕ). sendNotes l notes (countOf run) (capacityOf run)) e;
+  notes-are = s .notes-are ∙ ap (λ (l : List ℕ). sendNotes l notes (countOf run) capacity) e;
   tally-is = refl;
 }
 
@@ -189,7 +195,7 @@ module _ (run offers outcomes notes : List ℕ) (tally : Tally) (r r′ o o′ n
     answers = x .answers ∙ ap (λ (i : ℕ). refused i 0) e ∙ sym (y .answers);
   }
 
-  same-run : (after : Tally) → Runs run offers outcomes notes after r o n t a → Runs run offers outcomes notes after r′ o′ n′ t′ a′ → Same r r′ o o′ n n′ t t′ a a′
+  same-run : (after : Tally) → Runs (capacityOf run) run offers outcomes notes after r o n t a → Runs (capacityOf run) run offers outcomes notes after r′ o′ n′ t′ a′ → Same r r′ o o′ n n′ t t′ a a′
   same-run after x y = record {
     run-is = x .run-is ∙ sym (y .run-is);
     outcomes-are = x .outcomes-are ∙ sym (y .outcomes-are);

@@ -101,7 +101,7 @@ returns-2 c =
     let i = c .before .before .before .before .before .before .before .before .before .before .before .intake-all in
     promises
     (slots-run (now (a .run)) (now (a .offers)) (now (a .outcomes)) (now (a .sent)) (a .tally) _ _ _ _ _ (fit (c .before .before .before .before .before .before .before .before .before .before .before .before .before .before .before .before .before .before .before .before .before .before .before .before)) (sym (brings (c .before .before .before .before .before .before .before .before .before .before .before .before .before .before .before .before .before)) ∙ c .before .before .before .before .before .before .before .before .before .before .before .before .before .before .before .brought .given .1)
-    (runs-by (now (a .run)) (now (a .offers)) (now (a .outcomes)) (now (a .sent)) _ _ _ _ _ _ (i .ensures .0) (i .ensures .1) (c .before .before .before .before .send .ensures)))
+    (runs-by _ (now (a .run)) (now (a .offers)) (now (a .outcomes)) (now (a .sent)) _ _ _ _ _ _ (i .ensures .0) (i .ensures .1) (c .before .before .before .before .send .ensures)))
 
 same-length-5 : tie.Need-same-length-5
 same-length-5 c = search needs
