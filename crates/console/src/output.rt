@@ -8,9 +8,6 @@ use libc::STDOUT_FILENO;
 
 pub const PAGE_BYTES: usize = 65536;
 
-// Every line is shorter than this, and the page has room for one before each.
-pub const LINE_BYTES: usize = 256;
-
 // How far the page is filled, and whether earlier text was lost because it could not be written.
 pub struct Filled {
     pub used: usize,

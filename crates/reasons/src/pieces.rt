@@ -1,6 +1,6 @@
 // The pieces that the words are made of.
 ghost use mathlib.Core.Path.{_≡_};
-ghost use Prim.Native.Nat.{_+_, _≤_};
+ghost use Prim.Native.Nat.{_+_, _-_, _≤_, min};
 ghost use lib.ListN.{length};
 use console::put;
 
@@ -54,7 +54,9 @@ pub fn say_range(line: &mut [u8], at: usize, low: u32, high: u32) -> usize
 }
 
 // A number of bytes.
-pub fn small(n: usize) -> u32 {
+pub fn small(n: usize) -> u32
+    ensures { λ r. ⌜ r ≡ min n 4294967295 ⌝ }
+{
     if n < LARGEST {
         n as u32
     } else {
@@ -64,7 +66,7 @@ pub fn small(n: usize) -> u32 {
 
 // What is left of n after k; nothing where k is more.
 pub fn left(n: u32, k: u32) -> u32
-    ensures { λ r. ⌜ r ≤ n ⌝ }
+    ensures { λ r. ⌜ r ≡ n - k ⌝ }
 {
     if n < k { 0 } else { n - k }
 }
