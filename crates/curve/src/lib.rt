@@ -1,4 +1,6 @@
 // The two sorts of quantity, slots and packets, and the ways between them: the value of a curve at a slot count, and the delay look-up back.
+#![tactic(auto)]
+
 ghost use Rattle.std.specs.Prelude.{◌≡◌, ◌+◌, ◌*◌, ◌/◌, ◌<◌, ◌≤◌, min, length, get_or};
 ghost use Rattle.words.specs.Words.{words};
 ghost use Rattle.curve.specs.Curve.{at};
@@ -7,11 +9,11 @@ ghost use Rattle.curve.specs.Delay.{delay, slot};
 ghost use Rattle.curve.specs.Lookup.{curve_of, Sized, farthest, most};
 
 // A number of slots.
-#[derive(Drop)]
+#[derive(Clone, Copy)]
 pub struct Slots(pub u32);
 
 // A number of packets.
-#[derive(Drop)]
+#[derive(Clone, Copy)]
 pub struct Packets(pub u32);
 
 // The lesser of two numbers.

@@ -1,4 +1,4 @@
--- One slot over the whole history, as document 01 has it (Deadline, Model), what a sheet that passes promises (Main, Base), and the laws of a run.
+-- One slot over the whole history, as document 01 has it (Deadline, Model), and what a sheet that passes promises (Main, Base). That it does, and the laws of a run, stand in proofs/.
 pub mod Count
 pub mod Pick
 pub mod Core
@@ -6,18 +6,9 @@ pub mod Deadline
 pub mod Steps
 pub mod Model
 pub mod Curves
-pub mod Order
-pub mod Facts
 pub mod Arrived
-pub mod Intake
-pub mod Theorem
 pub mod Main
 pub mod Base
-pub mod Laws
 pub mod Turn
 pub mod Ahead
 pub mod Tables
-pub mod Examples
-pub mod Sums
-pub mod Which
-pub mod Numbered

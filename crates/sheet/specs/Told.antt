@@ -1,11 +1,10 @@
 -- What the reader's answer says in document 01's numbers, what it has to say of the bytes, and that only one answer says it. Assumes nothing.
-use Rattle.std.specs.Prelude.{◌≡◌, true, false, List, ℕ, ◌-◌, ◌*◌, ltb, length, get_or, take, drop, replicate}
-use Rattle.std.proofs.Common.{arith}
+use Rattle.std.specs.Prelude.{◌≡◌, true, false, List, ℕ, ◌-◌, ltb, length, get_or, take, drop, replicate}
 use Rattle.curve.specs.Curve.{Curve}
 use Rattle.curve.specs.Lookup.{curve_of}
 use Rattle.sheet.specs.Limits.{most_sessions, fixed_bytes}
 use Rattle.sheet.specs.Refusal.{Refusal, none, refused}
-use Rattle.sheet.specs.Bytes.{capacity_of, period_of, count_of, service_length, envelope_length, room_of, service_rate, envelope_rate, envelope_place, record_bytes, session_of}
+use Rattle.sheet.specs.Bytes.{capacity_of, period_of, count_of, room_of, service_rate, envelope_rate, envelope_place, record_bytes}
 use Rattle.sheet.specs.Reading.{reading}
 use Rattle.sheet.specs.Starts.{start_of}
 use Rattle.sheet.specs.declared.Fault.{Fault}
@@ -19,12 +18,6 @@ use Rattle.sheet.specs.declared.Outcome.TheVariants.{Read, Refused}
 pub data Answer : Type 0 where
   read : ℕ → ℕ → ℕ → Answer
   refusal : ℕ → ℕ → Answer
-
--- the two are apart
-pub read-refusal : (c P m number place : ℕ) → read c P m ≡ refusal number place → ⊥
-read-refusal c P m number place e =
-    let z : ◌≡◌ {A = ℕ} 0 1 = cc in
-    omega arith
 
 -- the numbers and values of each case
 abbrev pub told : Outcome → Answer
@@ -75,17 +68,3 @@ pub record SessionIn (rest : List ℕ) (s : SessionAt) : Type 0 where
   pub envelope-to : s.envelope.to ≡ record_bytes rest
   pub envelope-rate : s.envelope.rate.0 ≡ envelope_rate rest
   pub room : s.room.0 ≡ room_of rest
-
-module _ (rest : List ℕ) (s : SessionAt) (h : SessionIn rest s) where
-  -- the parts are the session's curves
-  pub service_in : table_in rest s.service ≡ (session_of rest).service
-  unfolding session_of
-  service_in =
-      let e : s.service.to - s.service.from ≡ 2 * service_length rest = omega (arith, h.service-to, h.service-from) in
-      rw (e, h.service-from, h.service-rate)
-
-  pub envelope_in : table_in rest s.envelope ≡ (session_of rest).envelope
-  unfolding session_of
-  envelope_in =
-      let e : s.envelope.to - s.envelope.from ≡ 2 * envelope_length rest = omega (arith, h.envelope-to, h.envelope-from) in
-      rw (e, h.envelope-from, h.envelope-rate)

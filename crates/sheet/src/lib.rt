@@ -1,4 +1,6 @@
 // The reader: sheet bytes to the link's numbers and the places where its sessions start, or a refusal with its place. It reads in place and copies no table.
+#![tactic(auto)]
+
 ghost use Rattle.std.specs.Prelude.{◌≡◌};
 ghost use Rattle.sheet.specs.Refusal.{Clear};
 ghost use Rattle.sheet.specs.Reading.{head_lines};
@@ -13,7 +15,7 @@ pub mod limits;
 mod sessions;
 
 // What a sheet's bytes are.
-#[derive(Drop)]
+#[derive(Clone, Copy)]
 pub enum Outcome {
     // c, P and the number of sessions.
     Read(Packets, Slots, u32),
@@ -21,7 +23,7 @@ pub enum Outcome {
     Refused(u32, u32),
 }
 
-#[derive(Drop)]
+#[derive(Clone, Copy)]
 pub struct Reading {
     pub outcome: Outcome,
     // Where each session starts, 0 past the last.
@@ -29,14 +31,14 @@ pub struct Reading {
 }
 
 // Where a curve's table lies in its session's bytes, and its rate.
-#[derive(Drop)]
+#[derive(Clone, Copy)]
 pub struct Table {
     pub from: usize,
     pub to: usize,
     pub rate: Packets,
 }
 
-#[derive(Drop)]
+#[derive(Clone, Copy)]
 pub struct Session {
     pub service: Table,
     pub envelope: Table,
@@ -44,7 +46,7 @@ pub struct Session {
 }
 
 // What a check finds: nothing, or a refusal's number and place.
-#[derive(Drop)]
+#[derive(Clone, Copy)]
 pub enum Fault {
     Nothing,
     Found(u32, u32),

@@ -1,6 +1,5 @@
--- The verdict: what it says, why a finite walk settles it, and what the program keeps on its way.
+-- The verdict: what it says, and what the program keeps on its way. Why a finite walk settles it stands in proofs/.
 pub mod Load
-pub mod Candidates
 pub mod Bends
 pub mod Passes
 pub mod Stop
@@ -10,7 +9,6 @@ pub mod Verdict
 pub mod Link
 pub mod Answer
 pub mod Ready
-pub mod OneVerdict
 pub mod Share
 pub mod Window
 pub mod Held

@@ -1,4 +1,6 @@
 // The verdict on sheet bytes: a sheet passes exactly when the sum of (b*S)(t) over its sessions is at most c·t at every positive slot count. It works on the bytes in place.
+#![tactic(auto)]
+
 ghost use Rattle.std.specs.Prelude.{◌≡◌, ℕ, ◌+◌, ◌*◌, ◌-◌, ◌<◌, ◌≤◌, min, length, get_or};
 ghost use Rattle.curve.specs.Least.{least};
 ghost use Rattle.curve.specs.Lookup.{curve_of, Sized, farthest};
@@ -30,7 +32,7 @@ const WINDOW_PLACES: usize = 4096;
 // A window that ends here or later begins at the end of the longest table.
 const PAST_TABLES: u32 = 191;
 
-#[derive(Drop)]
+#[derive(Clone, Copy)]
 pub enum Verdict {
     // The slack, and the least slot count that gives it.
     Passed(Packets, Slots),
@@ -40,14 +42,14 @@ pub enum Verdict {
     Unreadable(u32, u32),
 }
 
-#[derive(Drop)]
+#[derive(Clone, Copy)]
 pub struct Answer {
     pub verdict: Verdict,
     // The delay figure of each session, 0 past the last.
     pub figures: [Slots; 16],
 }
 
-#[derive(Drop)]
+#[derive(Clone, Copy)]
 pub struct Judged {
     pub answer: Answer,
     // The numbers of the link and the places of the sessions, or the refusal.

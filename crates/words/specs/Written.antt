@@ -1,5 +1,5 @@
 -- Numbers written as bytes, the highest first, and that they read back. Assumes nothing.
-use Rattle.std.specs.Prelude.{◌≡◌, refl, List, [], ◌∷◌, ◌++◌, ℕ, zero, suc, ◌+◌, ◌*◌, ◌/◌, ◌%◌, length}
+use Rattle.std.specs.Prelude.{◌≡◌, refl, List, [], ◌∷◌, ◌++◌, ℕ, ◌+◌, ◌*◌, ◌/◌, ◌%◌, length}
 use Rattle.std.proofs.Common.{arith}
 use Rattle.words.specs.Words.{words}
 

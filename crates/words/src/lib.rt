@@ -1,4 +1,6 @@
 // Numbers that lie as bytes in a slice, the highest byte first: the one place that puts bytes together.
+#![tactic(auto)]
+
 ghost use Rattle.std.specs.Prelude.{◌≡◌, ◌+◌, ◌<◌, length};
 ghost use Rattle.words.specs.Words.{byte_at, word_at, long_at};
 

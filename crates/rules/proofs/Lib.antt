@@ -1,0 +1,23 @@
+-- The laws of the definitions of specs/.
+pub mod AheadLaws
+pub mod ArrivedLaws
+pub mod BaseLaws
+pub mod CoreLaws
+pub mod CountLaws
+pub mod CurvesLaws
+pub mod DeadlineLaws
+pub mod Examples
+pub mod Facts
+pub mod Intake
+pub mod Laws
+pub mod MainLaws
+pub mod ModelLaws
+pub mod Numbered
+pub mod Order
+pub mod PickLaws
+pub mod StepsLaws
+pub mod Sums
+pub mod TablesLaws
+pub mod Theorem
+pub mod TurnLaws
+pub mod Which

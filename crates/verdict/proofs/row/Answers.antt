@@ -1,0 +1,22 @@
+-- A row value by value: those looked up, then those a period apart from one that stands already. Assumes nothing.
+use Rattle.std.proofs.Common.{◌≡◌, ◌+◌, ◌-◌, get_or, arith}
+use Rattle.curve.specs.Curve.{at}
+use Rattle.curve.specs.Lookup.{curve_of}
+use Rattle.verdict.proofs.WindowLaws.{rowed_more, rowed_back}
+use Rattle.verdict.proofs.row.Goals as goal
+
+-- past the tables: the value a period later
+later-is : (c : goal.After-values-1) → get_or c.far.values (c.args.place + c.far.j - c.args.period.0) 0
+    ≡ at c.args.period.0 (curve_of c.args.table.now c.args.rate.0) (c.args.end - c.far.j + (c.far.j - c.args.end)) + c.args.rate.0
+later-is c =
+    rowed_back _ _ _ _ _ _ _ c.requires.0 c.far.invariant.2 (omega arith) c.far-test.true (c.looked-near.ensures.2 (omega arith))
+
+pub overflow_sub-values-in-far : goal.overflow_sub-values-in-far
+overflow_sub-values-in-far c = omega (arith, later-is c)
+
+pub far-preserved : goal.far-preserved
+far-preserved c = (
+  omega arith,
+  omega arith,
+  rowed_more _ _ _ _ _ c.far.j _ c.far.values c.far-test.true c.requires.2 c.far.invariant.2 (omega (arith, later-is c)),
+)

@@ -1,0 +1,10 @@
+-- One session's two rows after another's, as `Window` says. Assumes nothing.
+use Rattle.std.proofs.Common.{◌-◌, ◌*◌, ◌≤◌}
+use Rattle.verdict.specs.Window.{Window}
+use Rattle.verdict.proofs.window.Given as goal
+
+abbrev pub invariant-loop-i : goal.invariant-loop-i
+invariant-loop-i l = (l.i ≤ l.count) × Window l.bytes l.period.0 l.end (256 * l.i) l.values
+
+abbrev pub decreases-loop-i : goal.decreases-loop-i
+decreases-loop-i l = l.count - l.i
