@@ -4,17 +4,22 @@ use Rattle.std.proofs.Math.Path.{sym, ap}
 use Rattle.std.proofs.Common.{ap₂, ◌∙◌, inl, inr, arith, get_or-set_same, get_or-set_other}
 use Rattle.std.proofs.Math.Decide.{ℕ_discrete}
 use Rattle.std.proofs.Math.ListN.{get_or, get_or-eq_default}
-use Rattle.curve.specs.Order.{le_or_lt}
-use Rattle.curve.specs.Total.{total, total-suc}
-use Rattle.curve.specs.Curve.{Curve, at, at_table}
+use Rattle.curve.proofs.OrderLaws.{le_or_lt}
+use Rattle.curve.specs.Total.{total}
+use Rattle.curve.proofs.TotalLaws.{total-suc}
+use Rattle.curve.specs.Curve.{Curve, at}
+use Rattle.curve.proofs.CurveLaws.{at_table}
 use Rattle.curve.specs.Rises.{IsCurve}
-use Rattle.curve.specs.Delay.{Due, slot, never, slots_of, delay, delay-slot}
+use Rattle.curve.specs.Delay.{Due, slot, never, slots_of, delay}
+use Rattle.curve.proofs.DelayLaws.{delay-slot}
 use Rattle.sheet.specs.Limits.{longest_table}
 use Rattle.sheet.specs.Sheet.{Session, WellMadeSession}
 use Rattle.rules.specs.Deadline.{shift}
-use Rattle.rules.specs.Ahead.{ahead, ahead-suc}
-use Rattle.rules.specs.Tables.{kept_curve, kept_at, deadline-table}
-use Rattle.layout.specs.Layout.{block_numbers, service_length_at, envelope_length_at, taken_at, service_at, envelope_at, service_ahead_at, envelope_ahead_at, deadlines_at, ring, part, service, envelope, service_ahead}
+use Rattle.rules.specs.Ahead.{ahead}
+use Rattle.rules.proofs.AheadLaws.{ahead-suc}
+use Rattle.rules.specs.Tables.{kept_curve}
+use Rattle.rules.proofs.TablesLaws.{kept_at, deadline-table}
+use Rattle.layout.specs.Layout.{block_numbers, service_length_at, envelope_length_at, taken_at, service_at, envelope_at, service_ahead_at, envelope_ahead_at, deadlines_at, ring, part, service_ahead}
 use Rattle.layout.specs.Part.{part_at}
 use Rattle.layout.specs.Over.{puts, length-puts}
 use Rattle.layout.specs.Sound.{Sound}

@@ -3,21 +3,24 @@ use Rattle.std.specs.Prelude.{◌≡◌, List, ◌++◌, length, get_or}
 use Rattle.std.proofs.Common.{sym, ap, subst, ◌∙◌}
 use Prim.Native.Nat.{ℕ, zero, suc, ◌+◌, ◌-◌, ◌*◌, ◌≤◌, ◌<◌}
 use native.Mathlib.Omega.{arith}
-use Rattle.curve.specs.Least.{least-le, le-least}
+use Rattle.curve.proofs.LeastLaws.{least-le, le-least}
 use Rattle.curve.specs.Total.{total}
-use Rattle.curve.specs.Curve.{Curve, at, at_table}
+use Rattle.curve.specs.Curve.{Curve, at}
+use Rattle.curve.proofs.CurveLaws.{at_table}
 use Rattle.curve.specs.Rises.{IsCurve}
 use Rattle.sheet.specs.Limits.{most_capacity, largest_value}
 use Rattle.sheet.specs.Sheet.{Session, Sheet, WellMade, session, session_count}
-use Rattle.rules.specs.Count.{count_all, count_all_snoc, count-length}
+use Rattle.rules.specs.Count.{count_all}
+use Rattle.rules.proofs.CountLaws.{count_all_snoc, count-length}
 use Rattle.rules.specs.Model.{envelope_of, of_session, sends, one_slot, past}
-use Rattle.rules.specs.Curves.{made-curves, envelope-rises}
-use Rattle.rules.specs.Facts.{got, envelope-kept}
-use Rattle.rules.specs.Intake.{taken-split, in_room}
-use Rattle.rules.specs.Laws.{sent-most}
+use Rattle.rules.proofs.CurvesLaws.{made-curves, envelope-rises}
+use Rattle.rules.proofs.Facts.{got, envelope-kept}
+use Rattle.rules.proofs.Intake.{taken-split, in_room}
+use Rattle.rules.proofs.Laws.{sent-most}
 use Rattle.rules.specs.Ahead.{ahead}
-use Rattle.rules.specs.Tables.{kept_curve, kept-curve}
-use Rattle.layout.specs.Layout.{mark_at, capacity_at, period_at, count_at, done_at, service_length_at, envelope_length_at, room_at, service_rate_at, envelope_rate_at, taken_at, sent_at, envelope_ahead_at, block, service, envelope}
+use Rattle.rules.specs.Tables.{kept_curve}
+use Rattle.rules.proofs.TablesLaws.{kept-curve}
+use Rattle.layout.specs.Layout.{mark_at, capacity_at, period_at, count_at, done_at, service_length_at, envelope_length_at, room_at, service_rate_at, envelope_rate_at, taken_at, sent_at, envelope_ahead_at, block}
 use Rattle.layout.specs.Sound.{most_slots, most_ahead, Below, Sound}
 use Rattle.guard.specs.Opened.{Opened}
 use Rattle.history.specs.Image.{block_of}

@@ -4,16 +4,19 @@ use Rattle.std.specs.Prelude.{◌≡◌, refl, ◌⊎◌, true, ℕ, suc, ◌+�
 use Rattle.std.proofs.Common.{sym, ap, ◌∙◌, inl, inr, arith}
 use mathlib.Core.List.{List, [], ◌∷◌, Memᴰ}
 use Rattle.std.proofs.Math.Decide.{ℕ_discrete}
-use Rattle.curve.specs.Order.{le_or_lt}
+use Rattle.curve.proofs.OrderLaws.{le_or_lt}
 use Rattle.curve.specs.Delay.{come}
 use Rattle.sheet.specs.Limits.{most_sessions}
 use Rattle.layout.specs.Layout.{run_numbers, block_at, deadlines_at, ring}
-use Rattle.rules.specs.Count.{ind, count, count-some, count_witness}
-use Rattle.rules.specs.Pick.{extract, extract-count, extract-member, extract-first}
+use Rattle.rules.specs.Count.{ind, count}
+use Rattle.rules.proofs.CountLaws.{count-some, count_witness}
+use Rattle.rules.specs.Pick.{extract}
+use Rattle.rules.proofs.PickLaws.{extract-count, extract-member, extract-first}
 use Rattle.rules.specs.Deadline.{due_as}
 use Rattle.rules.specs.Model.{Packet, first}
-use Rattle.rules.specs.Order.{first_order, first-due, first_strict, in_turn}
-use Rattle.rules.specs.Turn.{up_to_number, own-up_to, none-up_to, up_to-is}
+use Rattle.rules.proofs.Order.{first_order, first-due, first_strict, in_turn}
+use Rattle.rules.specs.Turn.{up_to_number}
+use Rattle.rules.proofs.TurnLaws.{own-up_to, none-up_to, up_to-is}
 use Rattle.send.specs.Choice.{taken_of, sent_of, Waits, head_due, chosen, Chosen, chosen_only}
 use Rattle.send.specs.Send.{raised}
 use Rattle.send.specs.Sent.{raised-other, raised-here, raised-there, raised-taken}

@@ -9,10 +9,12 @@ use Rattle.std.proofs.Math.ListN.{length, drop, length-append}
 use Rattle.curve.specs.Delay.{slots_of}
 use Rattle.sheet.specs.Limits.{most_sessions}
 use Rattle.layout.specs.Layout.{run_numbers}
-use Rattle.rules.specs.Count.{ind, count, count-append}
-use Rattle.rules.specs.Pick.{extract, send, next, send-next}
+use Rattle.rules.specs.Count.{ind, count}
+use Rattle.rules.proofs.CountLaws.{count-append}
+use Rattle.rules.specs.Pick.{extract, send, next}
+use Rattle.rules.proofs.PickLaws.{send-next}
 use Rattle.rules.specs.Model.{Packet, first, of_session}
-use Rattle.rules.specs.Turn.{own-test, other_test}
+use Rattle.rules.proofs.TurnLaws.{own-test, other_test}
 use Rattle.send.specs.Choice.{sent_of, chosen}
 use Rattle.send.specs.Send.{note_numbers, note, noted-is, raised, step_run-stay, step_run-go, step_notes-stay, step_notes-go, step_count-stay, step_count-go, send_run, send_run-zero, send_run-suc}
 use Rattle.send.specs.Send.{send_notes, send_notes-zero, send_notes-suc, send_count, send_count-zero, send_count-suc}

@@ -2,16 +2,17 @@
 use Rattle.std.specs.Prelude.{◌≡◌, List}
 use Rattle.std.proofs.Math.Path.{refl, sym, ap₂}
 use Rattle.std.proofs.Common.{ap, ◌∙◌, arith}
-use Prim.Native.Nat.{ℕ, zero, suc, ◌-◌, ◌<◌, min}
+use Prim.Native.Nat.{ℕ, ◌-◌, ◌<◌, min}
 use Rattle.std.proofs.Math.ListN.{get_or}
 use Rattle.curve.specs.Total.{total}
 use Rattle.curve.specs.Curve.{at}
 use Rattle.sheet.specs.Sheet.{Sheet, WellMade, session, session_count}
 use Rattle.rules.specs.Count.{count_all}
 use Rattle.rules.specs.Model.{Past, envelope_of, took, of_session, waiting_of, headroom_of, over, takes, no_room, past}
-use Rattle.rules.specs.Facts.{got, slots, took-got, headroom-got}
-use Rattle.rules.specs.Intake.{taken-split}
-use Rattle.rules.specs.Ahead.{ahead, headroom-ahead}
+use Rattle.rules.proofs.Facts.{got, slots, took-got, headroom-got}
+use Rattle.rules.proofs.Intake.{taken-split}
+use Rattle.rules.specs.Ahead.{ahead}
+use Rattle.rules.proofs.AheadLaws.{headroom-ahead}
 use Rattle.layout.specs.Layout.{room_at, taken_at, sent_at, envelope_ahead_at}
 use Rattle.intake.specs.Share.{admitted, headroom_of as blockHeadroom, free_of, share_of}
 use Rattle.intake.specs.declared.Share.{Share}

@@ -8,17 +8,21 @@ use native.Mathlib.Omega.{arith}
 use Rattle.std.proofs.Math.Decide.{ℕ_discrete}
 use Rattle.std.proofs.Math.ListN.{get_or, drop, length-set}
 use Rattle.std.proofs.Math.Seq.{get_or-set_other}
-use Rattle.curve.specs.Total.{total, total-suc, total_mono}
-use Rattle.curve.specs.Delay.{Due, slot, slots_of, delay, delay-slot}
+use Rattle.curve.specs.Total.{total}
+use Rattle.curve.proofs.TotalLaws.{total-suc, total_mono}
+use Rattle.curve.specs.Delay.{Due, slot, slots_of, delay}
+use Rattle.curve.proofs.DelayLaws.{delay-slot}
 use Rattle.sheet.specs.Limits.{most_sessions}
 use Rattle.sheet.specs.Sheet.{Session, Sheet, WellMade, WellMadeSession, session, session_count}
 use Rattle.rules.specs.Count.{count_all}
 use Rattle.rules.specs.Deadline.{shift, deadline, due_as}
 use Rattle.rules.specs.Model.{delay_of, of_session, waiting_of, packet, joined, past, sends}
-use Rattle.rules.specs.Curves.{Curves, made-curves}
-use Rattle.rules.specs.Facts.{got, slots, got-eq, new_packet}
-use Rattle.rules.specs.Intake.{taken-split, in_room}
-use Rattle.rules.specs.Tables.{kept_curve, kept-curve, deadline-table}
+use Rattle.rules.specs.Curves.{Curves}
+use Rattle.rules.proofs.CurvesLaws.{made-curves}
+use Rattle.rules.proofs.Facts.{got, slots, got-eq, new_packet}
+use Rattle.rules.proofs.Intake.{taken-split, in_room}
+use Rattle.rules.specs.Tables.{kept_curve}
+use Rattle.rules.proofs.TablesLaws.{kept-curve, deadline-table}
 use Rattle.layout.specs.Layout.{run_numbers, head_numbers, block_numbers, done_at, taken_at, sent_at, deadlines_at, ring, block_at, block}
 use Rattle.layout.specs.Part.{part_same, block-at}
 use Rattle.layout.specs.Sound.{Sound}

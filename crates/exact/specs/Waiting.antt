@@ -11,16 +11,20 @@ use Rattle.curve.specs.Delay.{come}
 use Rattle.sheet.specs.Limits.{most_sessions}
 use Rattle.sheet.specs.Sheet.{Sheet, session_count}
 use Rattle.layout.specs.Layout.{run_numbers, block_at, deadlines_at, ring}
-use Rattle.rules.specs.Count.{count, count_all, count_all_snoc}
-use Rattle.rules.specs.Pick.{send-count}
-use Rattle.rules.specs.Deadline.{later, due_as, come-later}
+use Rattle.rules.specs.Count.{count, count_all}
+use Rattle.rules.proofs.CountLaws.{count_all_snoc}
+use Rattle.rules.proofs.PickLaws.{send-count}
+use Rattle.rules.specs.Deadline.{later, due_as}
+use Rattle.rules.proofs.DeadlineLaws.{come-later}
 use Rattle.rules.specs.Model.{Packet, of_session, packet, took, taken_in, arrivals, first, sends, one_slot, past}
 use Rattle.rules.specs.Curves.{Curves}
-use Rattle.rules.specs.Facts.{got, new_packet, slots}
-use Rattle.rules.specs.Arrived.{New, Arrived, together, arrivals-new, waiting-arrived}
-use Rattle.rules.specs.Intake.{taken-split}
-use Rattle.rules.specs.Laws.{rise}
-use Rattle.rules.specs.Turn.{up_to_number, counted, waiting-after, sent-numbers}
+use Rattle.rules.proofs.Facts.{got, new_packet, slots}
+use Rattle.rules.specs.Arrived.{together}
+use Rattle.rules.proofs.ArrivedLaws.{New, Arrived, arrivals-new, waiting-arrived}
+use Rattle.rules.proofs.Intake.{taken-split}
+use Rattle.rules.proofs.Laws.{rise}
+use Rattle.rules.specs.Turn.{up_to_number}
+use Rattle.rules.proofs.TurnLaws.{counted, waiting-after, sent-numbers}
 use Rattle.send.specs.Choice.{taken_of, sent_of}
 use Rattle.send.specs.Send.{note_numbers, send_run, send_notes, send_count}
 use Rattle.exact.specs.Queue.{Queued, Queue}

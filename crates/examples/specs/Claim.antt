@@ -5,7 +5,7 @@ use Rattle.std.proofs.Math.ListN.{get_or-map}
 use Rattle.sheet.specs.Bytes.{sheet_of}
 use Rattle.sheet.specs.Makes.{AllBytes}
 use Rattle.verdict.specs.Verdict.{Judges}
-use Rattle.verdict.specs.OneVerdict.{one-verdict}
+use Rattle.verdict.proofs.OneVerdict.{one-verdict}
 use Rattle.verdict.specs.declared.Answer.{Answer}
 use Rattle.examples.specs.Computed.{judged}
 use Rattle.examples.specs.Table.{Row, table}

@@ -4,23 +4,26 @@ use Rattle.std.specs.Prelude.{◌≡◌, List, map, ◌⊎◌, ℕ, ◌+◌, ◌
 use Rattle.std.proofs.Math.Path.{refl, sym, subst, ap}
 use Rattle.std.proofs.Common.{◌∙◌, inl, inr, arith, le-ltb}
 use Rattle.std.proofs.Math.ListN.{get_or, length-map, get_or-map, get_or-eq_default}
-use Rattle.curve.specs.Order.{le_or_lt}
+use Rattle.curve.proofs.OrderLaws.{le_or_lt}
 use Rattle.curve.specs.declared.Slots.{Slots}
 use Rattle.sheet.specs.Limits.{most_sessions}
 use Rattle.sheet.specs.Refusal.{Refusal, none, refused}
 use Rattle.sheet.specs.Sheet.{Sheet, session, session_count, WellMade}
 use Rattle.sheet.specs.Bytes.{sheet_of}
 use Rattle.sheet.specs.Reading.{reading}
-use Rattle.sheet.specs.Makes.{AllBytes, makes}
-use Rattle.verdict.specs.Bends.{Bends, load-bends-past}
-use Rattle.verdict.specs.Figure.{largest, le-largest}
-use Rattle.verdict.specs.Link.{even-gains, even-most}
-use Rattle.verdict.specs.Ready.{made-tables}
+use Rattle.sheet.specs.Makes.{AllBytes}
+use Rattle.sheet.proofs.MakesLaws.{makes}
+use Rattle.verdict.specs.Bends.{Bends}
+use Rattle.verdict.proofs.BendsLaws.{load-bends-past}
+use Rattle.verdict.specs.Figure.{largest}
+use Rattle.verdict.proofs.FigureLaws.{le-largest}
+use Rattle.verdict.proofs.LinkLaws.{even-gains, even-most}
+use Rattle.verdict.proofs.ReadyLaws.{made-tables}
 use Rattle.verdict.specs.Verdict.{load_of, can_send, figure_of, figure_in, Case, passed, failed, unreadable, told, Says, Judges}
 use Rattle.verdict.specs.declared.Verdict.{Verdict}
 use Rattle.verdict.specs.declared.Verdict.TheVariants.{Passed, Failed, Unreadable}
 use Rattle.rules.specs.Model.{listed}
-use Rattle.rules.specs.Facts.{listed_at, length-listed}
+use Rattle.rules.proofs.Facts.{listed_at, length-listed}
 use Rattle.examples.specs.Walked.{Tells, walked, walked_tells}
 
 -- the lengths of a session's two tables

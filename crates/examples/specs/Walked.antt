@@ -4,8 +4,10 @@ use Rattle.std.specs.Prelude.{◌≡◌, refl, Bool, true, false, ℕ, zero, suc
 use Rattle.std.proofs.Common.{arith, ltb-true, ltb-false}
 use Rattle.verdict.specs.Bends.{Bends}
 use Rattle.verdict.specs.Passes.{Passes, Fails}
-use Rattle.verdict.specs.Stop.{Gains, settles, stop}
-use Rattle.verdict.specs.Walk.{Lead, lead-none, lead-new, lead-keep, lead-done}
+use Rattle.verdict.specs.Stop.{Gains}
+use Rattle.verdict.proofs.StopLaws.{settles, stop}
+use Rattle.verdict.specs.Walk.{Lead}
+use Rattle.verdict.proofs.WalkLaws.{lead-none, lead-new, lead-keep, lead-done}
 use Rattle.verdict.specs.Verdict.{Case, passed, failed, unreadable}
 
 -- k slot counts from t on, where m is the least slack before t and w the first slot count that gives it

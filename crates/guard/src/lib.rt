@@ -1,4 +1,6 @@
 // The test of refusal 14: is there an opened run in the slice? It reads any numbers at all, and no sum of it can wrap on them.
+#![tactic(auto)]
+
 ghost use Rattle.std.specs.Prelude.{◌≡◌, ℕ, ◌+◌, ◌≤◌, ◌<◌, length};
 ghost use Rattle.sheet.specs.Limits.{longest_period, most_sessions};
 ghost use Rattle.layout.specs.Layout.{run_numbers, block_numbers, block};

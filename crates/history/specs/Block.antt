@@ -5,7 +5,7 @@ use Prim.Native.Nat.{ℕ, zero, ◌+◌, ◌-◌, ◌≤◌, ◌<◌}
 use native.Mathlib.Omega.{arith}
 use Rattle.std.proofs.Math.Decide.{ℕ_discrete}
 use Rattle.std.proofs.Math.ListN.{length-replicate, get_or-eq_default}
-use Rattle.curve.specs.Order.{le_or_lt}
+use Rattle.curve.proofs.OrderLaws.{le_or_lt}
 use Rattle.curve.specs.Curve.{Curve}
 use Rattle.sheet.specs.Limits.{longest_table}
 use Rattle.sheet.specs.Sheet.{Session}

@@ -5,15 +5,18 @@ use Rattle.std.proofs.Common.{ap, ◌∙◌, arith}
 use Rattle.std.proofs.Math.ListN.{length}
 use Rattle.std.proofs.lemmas.List.{length-replicate}
 use Rattle.std.proofs.Math.Seq.{ext_get_or}
-use Rattle.curve.specs.Total.{total, total-zero}
-use Rattle.curve.specs.Curve.{Curve, at, at_table}
+use Rattle.curve.specs.Total.{total}
+use Rattle.curve.proofs.TotalLaws.{total-zero}
+use Rattle.curve.specs.Curve.{Curve, at}
+use Rattle.curve.proofs.CurveLaws.{at_table}
 use Rattle.curve.specs.Delay.{Due, delay}
 use Rattle.sheet.specs.Sheet.{Session, Sheet, session}
 use Rattle.rules.specs.Steps.{steps}
 use Rattle.rules.specs.Count.{count_all}
-use Rattle.rules.specs.Facts.{listed_at, length-listed}
+use Rattle.rules.proofs.Facts.{listed_at, length-listed}
 use Rattle.rules.specs.Model.{took, after}
-use Rattle.rules.specs.Ahead.{ahead, ahead-zero}
+use Rattle.rules.specs.Ahead.{ahead}
+use Rattle.rules.proofs.AheadLaws.{ahead-zero}
 use Rattle.layout.specs.Layout.{ring}
 use Rattle.layout.specs.Splice.{zeros-at}
 use Rattle.history.specs.Image.{run_of, fresh, opened_run}

@@ -6,14 +6,16 @@ use Prim.Native.Nat.{ℕ, zero, suc, ◌+◌, ◌-◌, ◌%◌, ◌≤◌, ◌<�
 use Rattle.std.proofs.Math.Decide.{ℕ_discrete}
 use Rattle.std.proofs.lemmas.Bool.{lt-leb}
 use Rattle.std.proofs.Math.Seq.{ext_get_or}
-use Rattle.curve.specs.Order.{le_or_lt}
-use Rattle.curve.specs.Total.{total, total_cong, total_mono}
-use Rattle.curve.specs.Least.{least_cong}
+use Rattle.curve.proofs.OrderLaws.{le_or_lt}
+use Rattle.curve.specs.Total.{total}
+use Rattle.curve.proofs.TotalLaws.{total_cong, total_mono}
+use Rattle.curve.proofs.LeastLaws.{least_cong}
 use Rattle.curve.specs.Curve.{Curve, at}
 use Rattle.curve.specs.Delay.{Due, slots_of, delay}
 use Rattle.sheet.specs.Sheet.{Session, WellMadeSession}
-use Rattle.rules.specs.Deadline.{deadline, deadline_cong}
-use Rattle.rules.specs.Facts.{listed_at, length-listed}
+use Rattle.rules.specs.Deadline.{deadline}
+use Rattle.rules.proofs.DeadlineLaws.{deadline_cong}
+use Rattle.rules.proofs.Facts.{listed_at, length-listed}
 use Rattle.rules.specs.Ahead.{ahead, Holds}
 use Rattle.layout.specs.Layout.{ring}
 use Rattle.history.specs.Block.{Fitting}

@@ -3,7 +3,8 @@ use Rattle.std.specs.Prelude.{◌≡◌, refl, List, [], ◌∷◌, ℕ, zero, s
 use Rattle.std.proofs.Math.Path.{sym, ap}
 use Rattle.std.proofs.Common.{ap₂, ◌∙◌, arith}
 use Rattle.std.proofs.Math.ListN.{length}
-use Rattle.curve.specs.Curve.{Curve, at, at_table, at_tail}
+use Rattle.curve.specs.Curve.{Curve, at}
+use Rattle.curve.proofs.CurveLaws.{at_table, at_tail}
 use Rattle.sheet.specs.Limits.{largest_value, largest_rate}
 use Rattle.layout.specs.Layout.{part}
 use Rattle.layout.specs.Part.{part_length, part_at}

@@ -4,9 +4,11 @@ use Rattle.std.proofs.Common.{inl, inr, le→leb}
 use native.Mathlib.Omega.{arith}
 use Rattle.std.proofs.Math.Dec.{leb→le}
 use Rattle.std.proofs.Math.ListN.{get_or}
-use Rattle.curve.specs.Order.{le_or_lt}
-use Rattle.curve.specs.Curve.{Curve, at, at_table}
-use Rattle.curve.specs.Delay.{slot, come, delay, delay-from, delay-law}
+use Rattle.curve.proofs.OrderLaws.{le_or_lt}
+use Rattle.curve.specs.Curve.{Curve, at}
+use Rattle.curve.proofs.CurveLaws.{at_table}
+use Rattle.curve.specs.Delay.{slot, come, delay}
+use Rattle.curve.proofs.DelayLaws.{delay-from, delay-law}
 use Rattle.curve.specs.Rises.{IsCurve}
 use Rattle.sheet.specs.Limits.{longest_period, longest_table, largest_rate}
 use Rattle.layout.specs.Sound.{most_ahead, Below}

@@ -6,7 +6,7 @@ use mathlib.Core.List.{List, ◌++◌}
 use Prim.Native.Nat.{ℕ, zero, suc, ◌+◌, ◌-◌, ◌*◌, ◌≤◌, ◌<◌}
 use native.Mathlib.Omega.{arith}
 use Rattle.std.proofs.Math.ListN.{length, length-set}
-use Rattle.curve.specs.Order.{le_or_lt}
+use Rattle.curve.proofs.OrderLaws.{le_or_lt}
 use Rattle.sheet.specs.Limits.{most_sessions}
 use Rattle.layout.specs.Layout.{run_numbers, head_numbers, block_numbers, block_at, part, block}
 use Rattle.layout.specs.Sound.{Sound}

@@ -1,4 +1,6 @@
 // The intake of one session: what is taken in of the packets offered in a slot, their deadlines, and what lies ahead one slot further.
+#![tactic(auto)]
+
 ghost use Rattle.std.specs.Prelude.{◌≡◌, ◌+◌, ◌<◌, ◌≤◌, min, length, get_or};
 ghost use Rattle.curve.specs.Delay.{delay, slot};
 ghost use Rattle.intake.specs.Due.{curve_with, Seeks, Begins, most_delay};
@@ -16,7 +18,7 @@ use layout::{
 };
 
 // How the packets offered in a slot are shared out, in packets: taken in, above the headroom, within it but with no room.
-#[derive(Drop)]
+#[derive(Clone, Copy)]
 pub struct Share {
     pub taken: u32,
     pub over: u32,

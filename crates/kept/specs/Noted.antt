@@ -2,12 +2,12 @@
 use Rattle.std.specs.Prelude.{◌≡◌, ◌⊎◌, List, ℕ, suc, ◌+◌, ◌≤◌, ◌<◌, eqb}
 use Rattle.std.proofs.Common.{sym, subst, ◌∙◌, inl, inr, arith, eq-eqb}
 use Rattle.std.proofs.Math.Path.{ap}
-use Rattle.curve.specs.Order.{le_or_lt}
-use Rattle.curve.specs.Total.{total-suc, total_mono}
+use Rattle.curve.proofs.OrderLaws.{le_or_lt}
+use Rattle.curve.proofs.TotalLaws.{total-suc, total_mono}
 use Rattle.sheet.specs.Bytes.{sheet_of}
 use Rattle.rules.specs.Count.{ind}
 use Rattle.rules.specs.Model.{Packet}
-use Rattle.rules.specs.Numbered.{sends-arrived}
+use Rattle.rules.proofs.Numbered.{sends-arrived}
 use Rattle.kept.specs.Calls.{Calls, note_session, note_packet, noted_first, sent_in}
 use Rattle.kept.specs.Numbers.{AtPlace, packet-at, member}
 use Rattle.kept.specs.Promise.{went, WasTaken, Earlier}

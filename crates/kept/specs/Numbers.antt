@@ -7,8 +7,9 @@ use mathlib.Core.List.{List, [], ◌∷◌, ◌++◌, Memᴰ, append_assoc}
 use Prim.Native.Nat.{ℕ, zero, suc, ◌+◌, ◌*◌, ◌≤◌, ◌<◌}
 use Rattle.std.proofs.Math.ListN.{length, get_or, get_or-append}
 use Rattle.std.proofs.Math.Seq.{get_or-append-add}
-use Rattle.curve.specs.Order.{le_or_lt}
-use Rattle.curve.specs.Total.{total, total-zero, total-front, total_cong}
+use Rattle.curve.proofs.OrderLaws.{le_or_lt}
+use Rattle.curve.specs.Total.{total}
+use Rattle.curve.proofs.TotalLaws.{total-zero, total-front, total_cong}
 use Rattle.curve.specs.Delay.{slots_of}
 use Rattle.sheet.specs.Sheet.{Sheet, session_count}
 use Rattle.rules.specs.Count.{ind, count}
@@ -63,8 +64,9 @@ next_place y l j x a = record { before = y ∷ a.before; others = a.others; spli
 
 -- each member has a place, and each place a packet, which is a member
 pub place_of : (l : List Packet) (x : Packet) → Memᴰ x l → (j : ℕ) × AtPlace l j x
-place_of l x (Memᴰ.head {x = y} {xs = ys} e) = (0, record { before = []; others = ys; splits = ap (λ z. z ∷ ys) (sym e); place = refl })
-place_of l x (Memᴰ.tail {x = y} {xs = ys} m) =
+place_of [] x m = elim m [ ]
+place_of (y ∷ ys) x (Memᴰ.head e) = (0, record { before = []; others = ys; splits = ap (λ z. z ∷ ys) (sym e); place = refl })
+place_of (y ∷ ys) x (Memᴰ.tail m) =
     let w = place_of ys x m in
     (suc w.0, next_place y ys w.0 x w.1)
 

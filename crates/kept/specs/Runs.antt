@@ -4,19 +4,22 @@ use Rattle.std.proofs.Common.{sym, ap, subst, ◌∙◌, inl, inr, arith, length
 use mathlib.Core.List.{List, [], ◌∷◌, ◌++◌}
 use Prim.Native.Nat.{ℕ, zero, suc, ◌+◌, ◌≤◌, ◌<◌}
 use Rattle.std.proofs.Math.Seq.{drop-append-add}
-use Rattle.curve.specs.Order.{le_or_lt}
+use Rattle.curve.proofs.OrderLaws.{le_or_lt}
 use Rattle.sheet.specs.Sheet.{Sheet, WellMade}
 use Rattle.sheet.specs.Bytes.{sheet_of}
-use Rattle.sheet.specs.Makes.{AllBytes, makes}
+use Rattle.sheet.specs.Makes.{AllBytes}
+use Rattle.sheet.proofs.MakesLaws.{makes}
 use Rattle.verdict.specs.Verdict.{Case, passed, failed, unreadable, Says}
-use Rattle.verdict.specs.OneVerdict.{some-verdict}
-use Rattle.rules.specs.Steps.{steps, steps_snoc}
+use Rattle.verdict.proofs.OneVerdict.{some-verdict}
+use Rattle.rules.specs.Steps.{steps}
+use Rattle.rules.proofs.StepsLaws.{steps_snoc}
 use Rattle.rules.specs.Model.{one_slot, past, after}
 use Rattle.layout.specs.Layout.{run_numbers}
 use Rattle.layout.specs.Sound.{most_slots}
 use Rattle.history.specs.Run.{length_run}
 use Rattle.history.specs.After.{run_with, run_after, IsRun}
-use Rattle.opening.specs.Open.{opened, opened_or_refused, Opens, unchanged as not_opened}
+use Rattle.opening.specs.Open.{opened, Opens}
+use Rattle.opening.proofs.OpenLaws.{opened_or_refused, unchanged as not_opened}
 use Rattle.run.specs.Slot.{sent}
 use Rattle.run.specs.ByRules.{Done}
 use Rattle.run.specs.Answered.{unchanged, Answered, answered}

@@ -4,13 +4,14 @@ use Rattle.std.proofs.Math.Path.{refl, ap}
 use Rattle.std.proofs.Common.{◌∙◌}
 use Prim.Native.Nat.{ℕ, zero, suc, ◌+◌, ◌*◌, ◌≤◌}
 use native.Mathlib.Omega.{arith}
-use Rattle.curve.specs.Total.{total, total_cong, total-add, total-most}
+use Rattle.curve.specs.Total.{total}
+use Rattle.curve.proofs.TotalLaws.{total_cong, total-add, total-most}
 use Rattle.sheet.specs.Sheet.{Sheet, WellMade, session_count}
 use Rattle.sheet.specs.Bytes.{sheet_of}
 use Rattle.sheet.specs.Makes.{AllBytes}
 use Rattle.rules.specs.Model.{Past, over, takes, no_room, one_slot, past}
-use Rattle.rules.specs.Laws.{offers-split, sent-most}
-use Rattle.rules.specs.Sums.{sends-split}
+use Rattle.rules.proofs.Laws.{offers-split, sent-most}
+use Rattle.rules.proofs.Sums.{sends-split}
 use Rattle.layout.specs.Sound.{most_slots}
 use Rattle.run.specs.Brought.{Within}
 use Rattle.run.specs.ByRules.{tally_by}

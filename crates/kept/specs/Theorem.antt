@@ -3,8 +3,8 @@ use Rattle.std.specs.Prelude.{◌≡◌, ◌⊎◌, List, ℕ, ◌+◌, ◌-◌,
 use Rattle.std.proofs.Math.Path.{sym, ap}
 use Rattle.std.proofs.Common.{subst, ◌∙◌, inl, inr}
 use native.Mathlib.Omega.{arith}
-use Rattle.curve.specs.Order.{le_or_lt}
-use Rattle.curve.specs.Least.{least_cong}
+use Rattle.curve.proofs.OrderLaws.{le_or_lt}
+use Rattle.curve.proofs.LeastLaws.{least_cong}
 use Rattle.curve.specs.Total.{total}
 use Rattle.curve.specs.Delay.{come}
 use Rattle.sheet.specs.Sheet.{Sheet, session, session_count}
@@ -12,11 +12,13 @@ use Rattle.sheet.specs.Bytes.{sheet_of}
 use Rattle.verdict.specs.Verdict.{passed, Says}
 use Rattle.rules.specs.Count.{count_all}
 use Rattle.rules.specs.Model.{Past, service_of, of_session, waiting_of, takes, past, promised}
-use Rattle.rules.specs.Curves.{WithinCapacity, passes-within}
-use Rattle.rules.specs.Facts.{got, new_packet}
-use Rattle.rules.specs.Intake.{taken-split}
-use Rattle.rules.specs.Main.{Kept as ModelKept, main_theorem, taken-got}
-use Rattle.rules.specs.Which.{was_sent, still-waits}
+use Rattle.rules.specs.Curves.{WithinCapacity}
+use Rattle.rules.proofs.CurvesLaws.{passes-within}
+use Rattle.rules.proofs.Facts.{got, new_packet}
+use Rattle.rules.proofs.Intake.{taken-split}
+use Rattle.rules.specs.Main.{Kept as ModelKept}
+use Rattle.rules.proofs.MainLaws.{main_theorem, taken-got}
+use Rattle.rules.proofs.Which.{was_sent, still-waits}
 use Rattle.layout.specs.Layout.{run_numbers}
 use Rattle.opening.specs.Open.{Answer, opened, Opens}
 use Rattle.kept.specs.Calls.{Calls, took_in}

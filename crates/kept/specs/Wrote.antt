@@ -5,16 +5,20 @@ use Rattle.std.proofs.Common.{sym, ◌∙◌}
 use Prim.Native.Nat.{ℕ, zero, suc, ◌+◌, ◌*◌, ◌≤◌, ◌<◌}
 use native.Mathlib.Omega.{arith}
 use Rattle.std.proofs.Math.ListN.{get_or}
-use Rattle.curve.specs.Total.{total, total_cong}
+use Rattle.curve.specs.Total.{total}
+use Rattle.curve.proofs.TotalLaws.{total_cong}
 use Rattle.curve.specs.Delay.{slot, slots_of}
 use Rattle.sheet.specs.Sheet.{Sheet, session, session_count}
 use Rattle.sheet.specs.Bytes.{sheet_of}
-use Rattle.rules.specs.Count.{ind, count, count_all, count_all_snoc}
-use Rattle.rules.specs.Deadline.{deadline, deadline_cong}
+use Rattle.rules.specs.Count.{ind, count, count_all}
+use Rattle.rules.proofs.CountLaws.{count_all_snoc}
+use Rattle.rules.specs.Deadline.{deadline}
+use Rattle.rules.proofs.DeadlineLaws.{deadline_cong}
 use Rattle.rules.specs.Model.{Packet, Past, delay_of, of_session, over, no_room, packet, sends, one_slot, past, after}
-use Rattle.rules.specs.Curves.{Curves, made-curves}
-use Rattle.rules.specs.Facts.{got, new_packet}
-use Rattle.rules.specs.Numbered.{by_number}
+use Rattle.rules.specs.Curves.{Curves}
+use Rattle.rules.proofs.CurvesLaws.{made-curves}
+use Rattle.rules.proofs.Facts.{got, new_packet}
+use Rattle.rules.proofs.Numbered.{by_number}
 use Rattle.intake.specs.Intakes.{outcome_numbers}
 use Rattle.send.specs.Send.{note_numbers, session_at, packet_at, deadline_at}
 use Rattle.exact.specs.Written.{outcomes_by, notes_of}

@@ -7,7 +7,7 @@ use Rattle.std.proofs.Math.Numerals.{add-one}
 use native.Mathlib.Omega.{arith}
 use Rattle.std.proofs.Math.ListN.{get_or, length-set}
 use Rattle.std.proofs.Math.Seq.{get_or-set_other}
-use Rattle.curve.specs.Order.{le_or_lt}
+use Rattle.curve.proofs.OrderLaws.{le_or_lt}
 use Rattle.layout.specs.Layout.{part}
 use Rattle.layout.specs.Part.{part_length, part_at}
 

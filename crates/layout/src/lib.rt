@@ -1,4 +1,6 @@
 // Where each number of a run stands in its slice: a head, and a block for each of sixteen sessions.
+#![tactic(auto)]
+
 pub const RUN_NUMBERS: usize = 12288;
 
 pub const HEAD_NUMBERS: usize = 256;

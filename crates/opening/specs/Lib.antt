@@ -1,4 +1,3 @@
 -- The run before slot 1, and what `open` answers.
-pub mod Fresh
 pub mod Opens
 pub mod Open

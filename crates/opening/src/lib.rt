@@ -1,4 +1,6 @@
 // Opens a run: the refusals 13, 1 to 11 and 12, or the run before slot 1 in a lent slice of numbers.
+#![tactic(auto)]
+
 ghost use Rattle.std.specs.Prelude.{◌≡◌, ◌++◌, ◌≤◌, length, drop};
 ghost use Rattle.sheet.specs.Refusal.{none};
 ghost use Rattle.sheet.specs.Bytes.{sheet_of};
@@ -15,7 +17,7 @@ use verdict::{Answer, Verdict};
 
 mod writing;
 
-#[derive(Drop)]
+#[derive(Clone, Copy)]
 pub enum Opening {
     // The run stands before slot 1.
     Opened,
@@ -24,7 +26,7 @@ pub enum Opening {
 }
 
 // An opening, and beside it the verdict on the sheet with its figures.
-#[derive(Drop)]
+#[derive(Clone, Copy)]
 pub struct JudgedOpening {
     pub opening: Opening,
     pub answer: Answer,

@@ -3,7 +3,7 @@ use Rattle.std.specs.Prelude.{◌≡◌, refl, Bool, ◌||◌, ◌⊎◌, ℕ, �
 use Rattle.std.proofs.Common.{sym, ◌∙◌, true≢false, inl, inr, arith, ltb-false, le-ltb}
 use Rattle.std.proofs.Math.Path.{ap}
 use Rattle.std.proofs.Math.Bool.{true, false}
-use Rattle.sheet.specs.Refusal.{or_false, or_neither}
+use Rattle.sheet.proofs.RefusalLaws.{or_false, or_neither}
 use Rattle.run.specs.Summed.{Small}
 use Rattle.run.specs.declared.tally.Tally.{Tally}
 use Rattle.run.specs.declared.tally.Sums.{Sums}

@@ -2,7 +2,7 @@
 use Rattle.std.specs.Prelude.{◌≡◌, List, ◌⊎◌, ℕ, zero, suc, ◌+◌, ◌-◌, ◌*◌, ◌≤◌, ◌<◌, length, get_or}
 use Rattle.std.proofs.Common.{inl, inr, arith}
 use Rattle.std.proofs.Math.Decide.{dec_le, dec_lt, ℕ_discrete}
-use Rattle.curve.specs.Order.{le_or_lt}
+use Rattle.curve.proofs.OrderLaws.{le_or_lt}
 use Rattle.sheet.specs.Limits.{most_capacity, longest_period, longest_table, largest_value, largest_rate, largest_room, most_sessions}
 use Rattle.layout.specs.Layout.{run_numbers, mark, mark_at, service_length_at, envelope_length_at, room_at, service_rate_at, envelope_rate_at, taken_at, sent_at, service_at, envelope_at, service_ahead_at, envelope_ahead_at, block}
 use Rattle.layout.specs.Sound.{most_slots, most_ahead, Numbers, Sound}

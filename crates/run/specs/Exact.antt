@@ -7,12 +7,14 @@ use Prim.Native.Nat.{ℕ, suc, ◌+◌, ◌-◌, ◌*◌, ◌≤◌, ◌<◌}
 use native.Mathlib.Omega.{arith}
 use Rattle.std.proofs.Math.ListN.{length, set, drop}
 use Rattle.std.proofs.lemmas.List.{get_or_at}
-use Rattle.curve.specs.Total.{total, total_cong}
+use Rattle.curve.specs.Total.{total}
+use Rattle.curve.proofs.TotalLaws.{total_cong}
 use Rattle.sheet.specs.Sheet.{Sheet, WellMade, session_count}
 use Rattle.rules.specs.Model.{Past, waiting_of, over, takes, no_room, sends, past, after}
-use Rattle.rules.specs.Base.{offers_of, after-past}
-use Rattle.rules.specs.Laws.{run_is}
-use Rattle.rules.specs.Sums.{waiting-total, sends-split, sends-count}
+use Rattle.rules.specs.Base.{offers_of}
+use Rattle.rules.proofs.BaseLaws.{after-past}
+use Rattle.rules.proofs.Laws.{run_is}
+use Rattle.rules.proofs.Sums.{waiting-total, sends-split, sends-count}
 use Rattle.layout.specs.Layout.{run_numbers, capacity_at, period_at, count_at, done_at, block}
 use Rattle.layout.specs.Sound.{most_slots, Sound}
 use Rattle.guard.specs.Opened.{Opened}

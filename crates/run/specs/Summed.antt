@@ -1,7 +1,8 @@
 -- A slot's sums over the sessions of a run, read from the blocks as they are before the slot. Assumes nothing.
 use Rattle.std.specs.Prelude.{◌≡◌, refl, List, ℕ, ◌+◌, ◌-◌, ◌*◌, ◌≤◌, ◌<◌, min, length, get_or, take, drop}
 use Rattle.std.proofs.Common.{sym, ap, ap₂, ◌∙◌, add-one, arith}
-use Rattle.curve.specs.Total.{total, total-zero, total-suc}
+use Rattle.curve.specs.Total.{total}
+use Rattle.curve.proofs.TotalLaws.{total-zero, total-suc}
 use Rattle.sheet.specs.Limits.{most_sessions, largest_room}
 use Rattle.layout.specs.Layout.{run_numbers, block_numbers, room_at, taken_at, sent_at, envelope_ahead_at, block_at, block}
 use Rattle.layout.specs.Sound.{Sound}

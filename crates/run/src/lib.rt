@@ -1,4 +1,6 @@
 // The run of a link, slot by slot, in a lent slice of numbers.
+#![tactic(auto)]
+
 ghost use Rattle.run.specs.Why.{Why};
 ghost use Rattle.run.specs.Slot.{told};
 ghost use Rattle.run.specs.Exact.{Promises};
@@ -11,7 +13,7 @@ use tally::{Brought, Tally};
 pub mod intakes;
 pub mod tally;
 
-#[derive(Drop)]
+#[derive(Clone, Copy)]
 pub enum Answer {
     // How many packets were sent.
     Sent(u32),
@@ -20,7 +22,7 @@ pub enum Answer {
 }
 
 // What a slot answers, and the tally after it.
-#[derive(Drop)]
+#[derive(Clone, Copy)]
 pub struct Slotted {
     pub answer: Answer,
     pub tally: Tally,

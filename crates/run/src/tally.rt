@@ -9,7 +9,7 @@ use layout::{BLOCK_NUMBERS, HEAD_NUMBERS, SENT_AT, TAKEN_AT};
 const MOST_TOTAL: u32 = 4294967295;
 
 // The six totals, in packets.
-#[derive(Drop)]
+#[derive(Clone, Copy)]
 pub struct Tally {
     pub offered: u32,
     pub taken_in: u32,
@@ -20,7 +20,7 @@ pub struct Tally {
 }
 
 // A slot's sums over all sessions, in packets; `waiting` are those that wait before the slot.
-#[derive(Drop)]
+#[derive(Clone, Copy)]
 pub struct Sums {
     pub offered: u32,
     pub taken_in: u32,
@@ -63,7 +63,7 @@ pub fn sum_up(run: &[u32], offers: &[u8], count: usize) -> Sums
 }
 
 // The tally after a slot, or one of its totals would pass what 32 bits hold.
-#[derive(Drop)]
+#[derive(Clone, Copy)]
 pub enum Brought {
     Fits(Tally),
     TooMuch,

@@ -1,4 +1,6 @@
 // The sending of a slot: least deadline first, ties to the lower session, up to c packets.
+#![tactic(auto)]
+
 ghost use Rattle.std.specs.Prelude.{◌≡◌, ◌+◌, ◌*◌, ◌≤◌, ◌<◌, length};
 ghost use Rattle.sheet.specs.Limits.{most_capacity, most_sessions};
 ghost use Rattle.layout.specs.Layout.{run_numbers};

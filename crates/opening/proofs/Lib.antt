@@ -1,0 +1,4 @@
+-- The laws of the definitions of specs/.
+pub mod Fresh
+pub mod OpenLaws
+pub mod OpensLaws
