@@ -1,13 +1,13 @@
 -- ONE RESULT: two calls of an entry point on the same input give, answer and leave the same. Assumes nothing.
 use Rattle.std.specs.Prelude.{◌≡◌, Bool, List, ◌⊎◌, ℕ, ◌≤◌, ◌<◌, length}
 use Rattle.std.proofs.Common.{sym, ap, ◌∙◌, inl, inr}
-use Rattle.curve.specs.Order.{le_or_lt}
+use Rattle.curve.proofs.OrderLaws.{le_or_lt}
 use Rattle.sheet.specs.Makes.{AllBytes}
 use Rattle.verdict.specs.Verdict.{told}
-use Rattle.verdict.specs.OneVerdict.{one-verdict}
+use Rattle.verdict.proofs.OneVerdict.{one-verdict}
 use Rattle.verdict.specs.declared.Answer.{Answer}
 use Rattle.layout.specs.Over.{over}
-use Rattle.opening.specs.Open.{one-opening}
+use Rattle.opening.proofs.OpenLaws.{one-opening}
 use Rattle.run.specs.Slot as slot
 use Rattle.clib.specs.Numbers.{answer_numbers, total_numbers, judged_numbers, open_numbers, slot_numbers, tally_numbers, tally_of, case_numbers, figures_at, figure_numbers}
 use Rattle.clib.specs.Told.{OpensInto, SlotsInto, Untouched, SlotTold, JudgesInto}

@@ -1,4 +1,6 @@
 // The entry points for C: opening, a slot and the verdict, by numbers and slices alone. Each puts its answer into a lent slice; where a slice for it is too short it does nothing and gives false.
+#![tactic(auto)]
+
 ghost use Rattle.clib.specs.Told.{OpensInto, SlotsInto, JudgesInto};
 
 use opening::Opening;
