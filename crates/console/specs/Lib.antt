@@ -1,4 +1,7 @@
--- What a read brings, what the texts of the programs are as lists of bytes, and what it is to put text into a page.
+-- What a read brings, which failures may pass, a number's digits, what the texts of the programs are as lists of bytes, what it is to put text into a page, and to write it.
 pub mod Got
+pub mod Digits
 pub mod Text
 pub mod Put
+pub mod Written
+pub mod Again

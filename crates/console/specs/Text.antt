@@ -2,8 +2,8 @@
 use Rattle.std.specs.Prelude.{◌≡◌, cond, List, [], ◌∷◌, ◌++◌, ◌⊎◌, ℕ, zero, suc, ◌-◌, ◌*◌, ◌/◌, ◌^◌, ◌≤◌, ◌<◌, ltb}
 use Rattle.std.proofs.Common.{ap, inl, inr, pow-suc, div-lt_iff_lt-mul, le-div_iff_mul-le, arith, lt-ltb, le-ltb}
 use Rattle.std.proofs.Math.Nat.{one-le-pow, pow-le-pow_right}
-use Rattle.io.specs.Digits.{last_digits, IsDigitCount}
-use Rattle.curve.specs.Order.{le_or_lt}
+use Rattle.std.proofs.lemmas.Bool.{cases_lt}
+use Rattle.console.specs.Digits.{last_digits, IsDigitCount}
 
 -- how many decimal digits a number has, told right for numbers of up to `most` + 1 digits
 unfoldable pub places : ℕ → ℕ → ℕ
@@ -39,11 +39,11 @@ places_are (suc most) (suc (suc k)) n h f =
 
 -- a number of 32 bits has at most ten digits
 pub ten_digits : (n k : ℕ) → n < 4294967296 → IsDigitCount 10 1 n k → k ≤ 10
-ten_digits n k h f = go (le_or_lt k 10)
+ten_digits n k h f = go (cases_lt 10 k)
   where
-    go : (k ≤ 10) ⊎ (10 < k) → k ≤ 10
-    go (inl few) = few
-    go (inr many) =
+    go : (10 < k) ⊎ (k ≤ 10) → k ≤ 10
+    go (inr few) = few
+    go (inl many) =
         let low : 10 ^ (k - 1) ≤ n = f.2 (omega arith) in
         let more : 10 ^ 10 ≤ 10 ^ (k - 1) = pow-le-pow_right {n = 10} (omega arith) {i = 10} {j = k - 1} (omega arith) in
         absurd (omega arith)

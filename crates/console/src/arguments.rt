@@ -1,7 +1,8 @@
 // The program's arguments, as far as every program treats them alike.
 ghost use Rattle.std.specs.Prelude.{◌≤◌, length};
 
-use libc::STDERR_FILENO;
+use std::env::{Env, FillError};
+use std::io::Write;
 
 // As much of an argument as is shown.
 const SHOWN_BYTES: usize = 256;
@@ -29,12 +30,29 @@ fn show(word: &mut [u8], n: usize)
     }
 }
 
+// Whether the program was given an i-th argument. Argument 0 is its name.
+pub fn is_given<V: Env>(env: &V, i: usize) -> bool {
+    let mut start = [0u8; 1];
+    !matches!(env.arg(i, &mut start), Err(FillError::NotPresent))
+}
+
+// Puts the i-th argument, or as much of it as there is room for, at the start of the room, and answers how much that is.
+fn argument<V: Env>(env: &V, i: usize, room: &mut [u8]) -> usize
+    ensures { result ≤ length room.old }
+{
+    match env.arg(i, room) {
+        Ok(n) => n,
+        Err(FillError::TooLong) => room.len(),
+        Err(FillError::NotPresent) => 0,
+    }
+}
+
 // Tells in one line that the program does not know its i-th argument, with a hint.
-pub fn tell_unknown(i: usize, hint: &[u8]) {
+pub fn tell_unknown<V: Env, E: Write>(env: &V, errors: &mut E, i: usize, hint: &[u8]) {
     let mut word = [0u8; SHOWN_BYTES];
-    let n = os::arg(i, &mut word);
+    let n = argument(env, i, &mut word);
     show(&mut word, n);
-    io::write_all(STDERR_FILENO, b"unknown argument: ");
-    io::write_all(STDERR_FILENO, &word[..n]);
-    io::write_all(STDERR_FILENO, hint);
+    let _ = errors.write_all(b"unknown argument: ");
+    let _ = errors.write_all(&word[..n]);
+    let _ = errors.write_all(hint);
 }

@@ -1,53 +1,71 @@
-// Standard output by the page: text waits in a page until that is full or somebody has to wait, so that one call of the system serves thousands of lines.
-ghost use Rattle.std.specs.Prelude.{◌≡◌, ◌+◌, ◌≤◌, length};
+// Output by the page: text waits in a page until that is full or somebody has to wait, so that one call of the system serves thousands of lines.
+ghost use Rattle.std.specs.Prelude.{◌≡◌, ◌+◌, ◌≤◌, length, take, IfOk, OnOk, OnErr};
+ghost use Rattle.std.specs.Io.KnownBytes.{Appends, WriteAppends};
+ghost use Rattle.console.specs.Written.{AppendsSome, WritesOut, MakesRoom};
 
+use crate::failure;
 use crate::wait::{MOST_TRIES, again};
-use libc::STDOUT_FILENO;
+use std::io::{Error, ErrorKind, Result, Write};
+use std::time::Clock;
 
 pub const PAGE_BYTES: usize = 65536;
 
 // How far the page is filled, and whether earlier text was lost because it could not be written.
-#[derive(Drop)]
+#[derive(Clone, Copy)]
 pub struct Filled {
     pub used: usize,
     pub lost: bool,
 }
 
-// Writes the start of some text, and waits where nothing is taken yet; 0 where it fails.
-fn write_some(fd: i32, text: &[u8]) -> usize
-    ensures { result ≤ length text.now }
+// Writes the start of some text, and waits where nothing is taken yet.
+fn write_some<C: Clock, W: Write>(clock: &C, output: &mut W, text: &[u8]) -> Result<usize>
+    ensures bound { IfOk result (λ n. n ≤ length text.now) }
+    ensures bytes { WriteAppends (W.contents output.old) (W.contents output.new) result text.now }
 {
     let mut tries: u64 = 0;
-    while tries < MOST_TRIES {
-        let put = libc::write(fd, text);
-        if put >= 0 {
-            return io::count(put, text);
+    loop {
+        match output.write(text) {
+            Ok(n) => return Ok(n),
+            Err(error) => {
+                tries += 1;
+                if tries == MOST_TRIES {
+                    return Err(error);
+                }
+                if !again(clock, &error) {
+                    return Err(error);
+                }
+            }
         }
-        if !again() {
-            return 0;
-        }
-        tries += 1;
     }
-    0
 }
 
-// Writes all of some text, or answers false, and then errno says why it could not.
-pub fn write_all(fd: i32, text: &[u8]) -> bool {
+// Writes all of some text, or answers why it could not.
+pub fn write_all<C: Clock, W: Write>(clock: &C, output: &mut W, text: &[u8]) -> Result<()>
+    ensures ok { OnOk result (Appends (W.contents output.old) (W.contents output.new) text.now) }
+    ensures err { OnErr result (AppendsSome (W.contents output.old) (W.contents output.new) text.now) }
+{
     let mut done: usize = 0;
     while done < text.len() {
-        let put = write_some(fd, &text[done..]);
+        let put = write_some(clock, output, &text[done..])?;
         if put == 0 {
-            return false;
+            return Err(Error::from(ErrorKind::WriteZero));
         }
         done += put;
     }
-    true
+    Ok(())
 }
 
 // Writes the page's text. Where that fails it is told, and from then on nothing more is written, so that no print-out has a gap.
-pub fn write_out(page: &[u8], filled: Filled) -> Filled
+pub fn write_out<C: Clock, W: Write, E: Write>(
+    clock: &C,
+    output: &mut W,
+    errors: &mut E,
+    page: &[u8],
+    filled: Filled,
+) -> Filled
     requires { filled.used ≤ length page.now }
-    ensures { result.used ≡ 0 }
+    ensures used { result.used ≡ 0 }
+    ensures bytes { WritesOut (W.contents output.old) (W.contents output.new) (take filled.used page.now) filled.lost result.lost }
 {
     let used = filled.used;
     if filled.lost {
@@ -56,26 +74,36 @@ pub fn write_out(page: &[u8], filled: Filled) -> Filled
             lost: true,
         };
     }
-    if write_all(STDOUT_FILENO, &page[..used]) {
-        return Filled {
+    match write_all(clock, output, &page[..used]) {
+        Ok(()) => Filled {
             used: 0,
             lost: false,
-        };
-    }
-    os::fail(b"standard output");
-    Filled {
-        used: 0,
-        lost: true,
+        },
+        Err(error) => {
+            failure::tell(errors, b"standard output", &error);
+            Filled {
+                used: 0,
+                lost: true,
+            }
+        }
     }
 }
 
 // The page with so much room behind its text: what is in it is written where there is less.
-pub fn make_room(page: &[u8], filled: Filled, room: usize) -> Filled
+pub fn make_room<C: Clock, W: Write, E: Write>(
+    clock: &C,
+    output: &mut W,
+    errors: &mut E,
+    page: &[u8],
+    filled: Filled,
+    room: usize,
+) -> Filled
     requires { (filled.used ≤ length page.now) × (room ≤ length page.now) }
-    ensures { result.used + room ≤ length page.now }
+    ensures room { result.used + room ≤ length page.now }
+    ensures bytes { MakesRoom (W.contents output.old) (W.contents output.new) page.now filled result }
 {
     if filled.used <= page.len() - room {
         return filled;
     }
-    write_out(page, filled)
+    write_out(clock, output, errors, page, filled)
 }

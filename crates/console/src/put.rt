@@ -1,6 +1,6 @@
 // Text and numbers put into a page at a place; each function answers the place after what it put.
-ghost use Rattle.std.specs.Prelude.{[], ◌∷◌, ◌+◌, ◌≤◌, length};
-ghost use Rattle.console.specs.Text.{decimal};
+ghost use Rattle.std.specs.Prelude.{◌≡◌, [], ◌∷◌, ◌+◌, ◌≤◌, length};
+ghost use Rattle.console.specs.Text.{decimal, places};
 ghost use Rattle.console.specs.Text.{next as spaced};
 ghost use Rattle.console.specs.Text.{refused_line};
 ghost use Rattle.console.specs.Put.{Put};
@@ -20,14 +20,34 @@ pub fn text(page: &mut [u8], at: usize, words: &[u8]) -> usize
     end
 }
 
+// How many decimal digits a number has.
+fn count_places(n: u32) -> usize
+    ensures value { result ≡ places 9 n }
+    ensures few { result ≤ 10 }
+{
+    let mut rest = n;
+    let mut count: usize = 1;
+    while 10 <= rest {
+        rest /= 10;
+        count += 1;
+    }
+    count
+}
+
 // A number.
 pub fn number(page: &mut [u8], at: usize, n: u32) -> usize
     requires { at + 10 ≤ length page.old }
     ensures { Put page.old at (decimal n) page.new result × (result ≤ at + 10) }
 {
-    let mut digits = [0u8; 20];
-    let k = io::decimal(n as u64, &mut digits);
-    text(page, at, &digits[..k])
+    let end = at + count_places(n);
+    let mut i = end;
+    let mut rest = n;
+    while at < i {
+        i -= 1;
+        page[i] = b'0' + (rest % 10) as u8;
+        rest /= 10;
+    }
+    end
 }
 
 // A space, and a number after it.

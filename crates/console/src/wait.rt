@@ -1,16 +1,25 @@
 // When a call of the system that failed is to be made again, and how often at the most.
-use crate::nap::nap;
+ghost use Rattle.std.specs.Prelude.{◌≡◌};
+ghost use Rattle.std.specs.IoError.{error_kind};
+ghost use Rattle.console.specs.Again.{may_pass};
 
-// A call is made again no more often than this, which is some five thousand years of naps: every loop of ours ends.
+use crate::nap::nap;
+use std::io::{Error, ErrorKind};
+use std::time::Clock;
+
+// A call is made no more often than this, which is some five thousand years of naps: every loop of ours ends.
 pub const MOST_TRIES: u64 = 17592186044416;
 
-// Whether the call that just failed is to be made again: at once where a signal interrupted it, after a nap where nothing was ready. Else errno
-// still says why it failed.
-pub fn again() -> bool {
-    let error = os::errno();
-    if error == libc::EAGAIN {
-        nap();
-        return true;
+// Whether the call that failed so is to be made again: at once where a signal interrupted it, after a nap where nothing was ready.
+pub fn again<C: Clock>(clock: &C, error: &Error) -> bool
+    ensures { result ≡ may_pass (error_kind error.now) }
+{
+    match error.kind() {
+        ErrorKind::WouldBlock => {
+            nap(clock);
+            true
+        }
+        ErrorKind::Interrupted => true,
+        _ => false,
     }
-    error == libc::EINTR
 }

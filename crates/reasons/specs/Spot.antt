@@ -1,10 +1,11 @@
 -- Which session a place of the sheet's bytes belongs to: the last that starts at or before it, of at most sixteen. Assumes nothing.
-use Rattle.std.specs.Prelude.{◌≡◌, List, ℕ, zero, suc, ◌+◌, ◌*◌, ◌≤◌, ◌<◌, drop}
+use Rattle.std.specs.Prelude.{◌≡◌, List, ℕ, suc, ◌+◌, ◌*◌, ◌≤◌, ◌<◌, drop}
 use Rattle.std.proofs.Common.{sym, ap, ◌∙◌, arith, get_or-drop}
 use Rattle.words.specs.Words.{byte_at}
 use Rattle.sheet.specs.Limits.{head_bytes, fixed_bytes, most_sessions}
 use Rattle.sheet.specs.Bytes.{record_bytes}
-use Rattle.sheet.specs.Starts.{start_of, start-zero, start-suc}
+use Rattle.sheet.specs.Starts.{start_of}
+use Rattle.sheet.proofs.StartsLaws.{start-zero, start-suc}
 use Rattle.reasons.specs.declared.spot.Spot.{Spot}
 
 -- the session of an index, which starts no later than the place

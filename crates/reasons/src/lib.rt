@@ -1,8 +1,10 @@
 // The words for a refusal: one line for people that says what stands wrong, where, and the smallest hint that helps. The numbers that 01 asks for stay as they are.
+#![tactic(auto)]
+
 ghost use Rattle.std.specs.Prelude.{◌+◌, ◌≤◌, length};
 
 use console::put;
-use libc::STDERR_FILENO;
+use std::io::Write;
 
 mod pieces;
 mod session;
@@ -33,10 +35,10 @@ fn put_reason(line: &mut [u8], bytes: &[u8], number: u32, place: u32) -> usize
     slot::put_slot(line, number)
 }
 
-// Tells why a call was refused, in one line on standard error.
-pub fn tell(bytes: &[u8], number: u32, place: u32) {
+// Tells why a call was refused, in one line.
+pub fn tell<E: Write>(errors: &mut E, bytes: &[u8], number: u32, place: u32) {
     let mut line = [0u8; LINE_BYTES];
     let used = put_reason(&mut line, bytes, number, place);
     let end = put::end(&mut line, used);
-    io::write_all(STDERR_FILENO, &line[..end]);
+    let _ = errors.write_all(&line[..end]);
 }

@@ -11,7 +11,7 @@ const SERVICE_RATE_AT: u32 = 3;
 const ENVELOPE_RATE_AT: u32 = 5;
 
 // One of a session's two curves: whether it is the envelope, where its values start and how many they are, and where its rate stands.
-#[derive(Drop)]
+#[derive(Clone, Copy)]
 struct Curve {
     envelope: bool,
     from: u32,

@@ -16,7 +16,7 @@ pub const PERIOD_AT: u32 = 6;
 pub const COUNT_AT: u32 = 7;
 
 // A session, counted from 0, and where its bytes start.
-#[derive(Drop)]
+#[derive(Clone, Copy)]
 pub struct Spot {
     pub index: u32,
     pub start: u32,

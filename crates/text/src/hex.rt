@@ -13,7 +13,7 @@ use crate::number::{digit, number_at};
 const MANY: usize = 10000;
 
 // Two hex digits, or not.
-#[derive(Drop)]
+#[derive(Clone, Copy)]
 pub enum Pair {
     Byte(u8),
     Other,
@@ -21,7 +21,7 @@ pub enum Pair {
 
 // How far a line is read: the place in the line, the line's bytes so far, and where among them the word and the bracket began that a
 // repeat would take again.
-#[derive(Drop)]
+#[derive(Clone, Copy)]
 pub struct Progress {
     at: usize,
     written: usize,
@@ -30,14 +30,14 @@ pub struct Progress {
 }
 
 // What a step makes: how far the line is read now, or nothing.
-#[derive(Drop)]
+#[derive(Clone, Copy)]
 pub enum Step {
     On(Progress),
     Unclear,
 }
 
 // What a line makes: a number of bytes, or nothing.
-#[derive(Drop)]
+#[derive(Clone, Copy)]
 pub enum Line {
     Bytes(usize),
     Unclear,

@@ -1,15 +1,18 @@
-// What the programs that take text share: a text's lines and a line's words, the bytes and the numbers written in a line, and the printing of answers.
+// What the programs that take text share: a text's lines and a line's words, the bytes and the numbers written in a line, the reading of a text and the printing of answers.
+#![tactic(auto)]
+
 ghost use Rattle.std.specs.Prelude.{◌≡◌, ◌≤◌, min, length};
-ghost use Rattle.io.specs.Counts.{IsPrefixLen};
+ghost use Rattle.text.specs.Lines.{Counts};
 
 pub mod hex;
 pub mod number;
 pub mod print;
+pub mod read;
 
 // Where `mark` stands first, from `from` on; the text's end where it does not.
 pub fn find(text: &[u8], from: usize, mark: u8) -> usize
     requires { from ≤ length text.now }
-    ensures { (from ≤ result) × IsPrefixLen result text.now }
+    ensures { (from ≤ result) × Counts result text.now }
 {
     let mut end = from;
     while end < text.len() {

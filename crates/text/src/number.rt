@@ -5,14 +5,14 @@ ghost use Rattle.std.specs.Prelude.{◌≤◌, length};
 const TOO_LARGE: usize = 4294967296;
 
 // A number, and where it ends in its line.
-#[derive(Drop)]
+#[derive(Clone, Copy)]
 pub struct Number {
     pub value: usize,
     pub end: usize,
 }
 
 // Up to six numbers of 32 bits, how many they are, and where the last one ends in its line.
-#[derive(Drop)]
+#[derive(Clone, Copy)]
 pub struct Numbers {
     pub values: [u32; 6],
     pub count: usize,
