@@ -3,8 +3,9 @@ use Rattle.std.specs.Prelude.{◌≡◌, refl, List, [], ◌++◌, ℕ, zero, su
 use Rattle.std.proofs.Common.{ap, add-one, arith}
 use Rattle.sheet.specs.Refusal.{none}
 use Rattle.sheet.specs.Reading.{reading}
-use Rattle.sheet.specs.Clears.{HeadReads, clear-head}
-use Rattle.sheet.specs.Starts.{clear-parts}
+use Rattle.sheet.specs.Clears.{HeadReads}
+use Rattle.sheet.proofs.ClearsLaws.{clear-head}
+use Rattle.sheet.proofs.StartsLaws.{clear-parts}
 use Rattle.opening.specs.Open.{Answer, opened, refused}
 use Rattle.layout.specs.Layout.{done_at}
 use Rattle.run.specs.Slot.{Reply}

@@ -1,5 +1,5 @@
 -- What it is to move bytes to the front of a block: the first of them stand there, and what is not written over yet is as it was. Assumes nothing.
-use Rattle.std.specs.Prelude.{◌≡◌, refl, List, [], ◌∷◌, ◌++◌, ℕ, suc, ◌+◌, ◌≤◌, ◌<◌, length, take, drop, set, get_or}
+use Rattle.std.specs.Prelude.{◌≡◌, refl, List, [], ◌∷◌, ◌++◌, ℕ, ◌+◌, ◌<◌, length, take, drop, set, get_or}
 use Rattle.std.proofs.Common.{sym, ap, ◌∙◌, add-one, arith, length-set, length-drop, take-suc, take-suc-set, drop-set-lt, drop-drop, get_or-drop}
 
 -- the first i of the bytes from `from` on are moved

@@ -14,7 +14,7 @@ use verdict::{Answer, Verdict};
 const COUNT_AT: usize = 7;
 
 // What comes of the sheet. First, where its line ends in the page.
-#[derive(Drop)]
+#[derive(Clone, Copy)]
 pub enum First {
     // A run of so many sessions.
     Running(usize, usize),

@@ -16,11 +16,11 @@ pub const BLOCK_BYTES: usize = 65536;
 
 // Reads a sheet: its length, and as many bytes as that says, but no more than the longest sheet has. Fewer come where the stream ends early; the
 // reader of sheets refuses those.
-pub fn read_sheet(bytes: &mut [u8]) -> Got
+pub fn read_sheet(rt: HostRuntime, bytes: &mut [u8]) -> Got
     requires { 4216 ≤ length bytes.old }
     ensures { Within 0 4216 result }
 {
-    let got = read_full(&mut bytes[..LENGTH_BYTES], 0);
+    let got = read_full(&rt, &mut rt.stdin(), &mut bytes[..LENGTH_BYTES], 0);
     match got {
         Got::Bytes(n) => {
             if n < LENGTH_BYTES {
@@ -28,24 +28,24 @@ pub fn read_sheet(bytes: &mut [u8]) -> Got
             }
             let following = curve::lesser(words::long(bytes, 0), MOST_FOLLOWING);
             let end = LENGTH_BYTES + following as usize;
-            read_full(&mut bytes[..end], LENGTH_BYTES)
+            read_full(&rt, &mut rt.stdin(), &mut bytes[..end], LENGTH_BYTES)
         }
         Got::End => Got::End,
-        Got::Failed => Got::Failed,
+        Got::Failed(error) => Got::Failed(error),
     }
 }
 
 // Reads on in a block that holds the first bytes of an unfinished slot, of `count` bytes, until something comes; the bytes that the block then holds.
-pub fn read_block(block: &mut [u8], held: usize, count: usize) -> Got
+pub fn read_block(rt: HostRuntime, block: &mut [u8], held: usize, count: usize) -> Got
     requires { (held < count) × (count ≤ 16) × (length block.old ≡ 65536) }
     ensures { Within 1 65536 result }
 {
     let end = count * BLOCK_SLOTS;
-    let got = read_some(&mut block[held..end]);
+    let got = read_some(&rt, &mut rt.stdin(), &mut block[held..end]);
     match got {
         Got::Bytes(n) => Got::Bytes(held + n),
         Got::End => Got::End,
-        Got::Failed => Got::Failed,
+        Got::Failed(error) => Got::Failed(error),
     }
 }
 

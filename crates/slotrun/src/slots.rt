@@ -9,7 +9,7 @@ use crate::lines::NOTES;
 use crate::{input, lines};
 use console::input::Got;
 use console::output::Filled;
-use console::{output, put};
+use console::{failure, output, put};
 use layout::{DONE_AT, RUN_NUMBERS};
 use run::Answer;
 use run::tally::Tally;
@@ -24,7 +24,7 @@ const OUTCOMES: usize = 48;
 const SLOT_BYTES: usize = 16384;
 
 // What a slot came to: where its text ends in the page, the tally, and the number of its refusal, or 0.
-#[derive(Drop)]
+#[derive(Clone, Copy)]
 pub struct Printed {
     pub end: usize,
     pub tally: Tally,
@@ -32,7 +32,7 @@ pub struct Printed {
 }
 
 // How far the page is filled, the tally, and whether the run is over because a slot was refused, with that refusal's number, or text was lost.
-#[derive(Drop)]
+#[derive(Clone, Copy)]
 pub struct Progress {
     pub filled: Filled,
     pub tally: Tally,
@@ -41,14 +41,14 @@ pub struct Progress {
 }
 
 // How far a run is, and how many bytes of an unfinished slot the block holds.
-#[derive(Drop)]
+#[derive(Clone, Copy)]
 pub struct Step {
     pub progress: Progress,
     pub held: usize,
 }
 
 // What a turn leads to: a step further, or the end of the run with the number of the refusal that ended it, or 0.
-#[derive(Drop)]
+#[derive(Clone, Copy)]
 pub enum Turn {
     On(Step),
     Ended(u32),
@@ -91,7 +91,7 @@ fn run_slot(
 }
 
 // How far a run is after a slot; the page then has room for the next.
-fn after_slot(page: &[u8], printed: Printed, lost: bool) -> Progress
+fn after_slot(rt: HostRuntime, page: &[u8], printed: Printed, lost: bool) -> Progress
     requires { (printed.end ≤ length page.now) × (slot_bytes ≤ length page.now) }
     ensures { (result.filled.used + slot_bytes ≤ length page.now) × (result.tally ≡ printed.tally) × (result.refusal ≡ printed.refusal) }
 {
@@ -99,7 +99,14 @@ fn after_slot(page: &[u8], printed: Printed, lost: bool) -> Progress
         used: printed.end,
         lost,
     };
-    let filled = output::make_room(page, text, SLOT_BYTES);
+    let filled = output::make_room(
+        &rt,
+        &mut rt.stdout(),
+        &mut rt.stderr(),
+        page,
+        text,
+        SLOT_BYTES,
+    );
     let tally = printed.tally;
     let refusal = printed.refusal;
     if refusal != 0 {
@@ -120,6 +127,7 @@ fn after_slot(page: &[u8], printed: Printed, lost: bool) -> Progress
 
 // The whole slots of a block.
 fn run_block(
+    rt: HostRuntime,
     run: &mut [u32; RUN_NUMBERS],
     count: usize,
     block: &[u8],
@@ -134,7 +142,7 @@ fn run_block(
     while count <= block.len() - at {
         let end = at + count;
         let printed = run_slot(run, &block[at..end], p.tally, page, p.filled.used);
-        p = after_slot(page, printed, p.filled.lost);
+        p = after_slot(rt, page, printed, p.filled.lost);
         if p.over {
             return p;
         }
@@ -145,6 +153,7 @@ fn run_block(
 
 // The whole slots among the first n bytes of the block; the bytes of an unfinished one are kept at its front.
 fn run_some(
+    rt: HostRuntime,
     run: &mut [u32; RUN_NUMBERS],
     count: usize,
     block: &mut [u8],
@@ -155,17 +164,17 @@ fn run_some(
     requires { (1 ≤ count) × (n ≤ length block.old) × (before.filled.used + slot_bytes ≤ length page.old) }
     ensures { (result.held < count) × (result.progress.filled.used + slot_bytes ≤ length page.old) }
 {
-    let progress = run_block(run, count, &block[..n], page, before);
+    let progress = run_block(rt, run, count, &block[..n], page, before);
     let held = input::keep_rest(block, n - n % count, n);
     Step { progress, held }
 }
 
 // The run so far, with nothing left in the page.
-fn written(page: &[u8], p: Progress) -> Progress
+fn written(rt: HostRuntime, page: &[u8], p: Progress) -> Progress
     requires { p.filled.used ≤ length page.now }
     ensures { result.filled.used ≡ 0 }
 {
-    let filled = output::write_out(page, p.filled);
+    let filled = output::write_out(&rt, &mut rt.stdout(), &mut rt.stderr(), page, p.filled);
     let tally = p.tally;
     Progress {
         filled,
@@ -176,7 +185,7 @@ fn written(page: &[u8], p: Progress) -> Progress
 }
 
 // The end of the print-out, where the block holds so many bytes of an unfinished slot, and with it all that waits in the page.
-fn print_end(page: &mut [u8], p: Progress, held: usize)
+fn print_end(rt: HostRuntime, page: &mut [u8], p: Progress, held: usize)
     requires { p.filled.used + 512 ≤ length page.old }
 {
     let used = lines::put_ending(page, p.filled.used, held, p.tally);
@@ -184,17 +193,17 @@ fn print_end(page: &mut [u8], p: Progress, held: usize)
         used,
         lost: p.filled.lost,
     };
-    output::write_out(page, filled);
+    output::write_out(&rt, &mut rt.stdout(), &mut rt.stderr(), page, filled);
 }
 
 // Goes on after a step, or ends the run where it is over.
-fn go_on(page: &mut [u8], step: Step, count: usize) -> Turn
+fn go_on(rt: HostRuntime, page: &mut [u8], step: Step, count: usize) -> Turn
     requires { (step.held < count) × (step.progress.filled.used + slot_bytes ≤ length page.old) }
     ensures { Goes count step.progress.filled.used result }
 {
     let p = step.progress;
     if p.over {
-        print_end(page, p, 0);
+        print_end(rt, page, p, 0);
         return Turn::Ended(p.refusal);
     }
     Turn::On(step)
@@ -202,6 +211,7 @@ fn go_on(page: &mut [u8], step: Step, count: usize) -> Turn
 
 // Writes what is ready, waits for input, and runs the slots that come.
 fn take_turn(
+    rt: HostRuntime,
     run: &mut [u32; RUN_NUMBERS],
     count: usize,
     block: &mut [u8],
@@ -211,23 +221,23 @@ fn take_turn(
     requires { (count ≤ 16) × (length block.old ≡ 65536) × (slot_bytes ≤ length page.old) × Ready count (length page.old) step }
     ensures { Goes count (length page.old) result }
 {
-    let p = written(page, step.progress);
+    let p = written(rt, page, step.progress);
     if p.over {
         return Turn::Ended(0);
     }
     let held = step.held;
-    let got = input::read_block(block, held, count);
+    let got = input::read_block(rt, block, held, count);
     match got {
         Got::Bytes(n) => {
-            let next = run_some(run, count, block, n, page, p);
-            go_on(page, next, count)
+            let next = run_some(rt, run, count, block, n, page, p);
+            go_on(rt, page, next, count)
         }
         Got::End => {
-            print_end(page, p, held);
+            print_end(rt, page, p, held);
             Turn::Ended(0)
         }
-        Got::Failed => {
-            os::fail(b"standard input");
+        Got::Failed(error) => {
+            failure::tell(&mut rt.stderr(), b"standard input", &error);
             Turn::Ended(0)
         }
     }
@@ -255,14 +265,20 @@ fn start(used: usize) -> Step
 
 // Runs the slots of standard input to its end, and prints what they send and the total. The answer is the number of the refusal that ended the
 // run, or 0.
-pub fn run_slots(run: &mut [u32; RUN_NUMBERS], count: usize, page: &mut [u8], used: usize) -> u32
+pub fn run_slots(
+    rt: HostRuntime,
+    run: &mut [u32; RUN_NUMBERS],
+    count: usize,
+    page: &mut [u8],
+    used: usize,
+) -> u32
     requires { (1 ≤ count) × (count ≤ 16) × (slot_bytes ≤ length page.old) × (used ≤ length page.old) }
 {
     let mut block = [0u8; BLOCK_BYTES];
     let mut step = start(used);
     let mut reads: usize = 0;
     while reads < MOST_READS {
-        let turn = take_turn(run, count, &mut block, page, step);
+        let turn = take_turn(rt, run, count, &mut block, page, step);
         match turn {
             Turn::On(next) => {
                 step = next;

@@ -13,15 +13,20 @@
 // outcomes (taken in, over and no room of each session), the packets sent (session, packet and deadline of each) and the tally, with its totals
 // in the order above. Both result slices hold 4294967295 throughout before the slot, and all that is not so after it is shown. Last comes "kept" where
 // the run's slice is as it was before, past 12,288 numbers after an answer and throughout after a refusal; else "touched".
+#![tactic(auto)]
+
 mod settings;
 mod shown;
 mod slices;
 
-use libc::STDIN_FILENO;
 use settings::Settings;
 use shown::{show_opening, show_slots};
+use std::io::Write;
 use text::hex::Line;
-use text::{number, print};
+use text::{number, print, read};
+
+// The most bytes of a script that are read.
+const TEXT_BYTES: usize = 65536;
 
 // The most bytes that a line holds; a longer sheet is cut off there, and is refused all the same.
 const LINE_ROOM: usize = 8192;
@@ -33,7 +38,7 @@ const OUTCOMES_ROOM: usize = 56;
 
 const SENT_ROOM: usize = 200;
 
-#[derive(Drop)]
+#[derive(Clone, Copy)]
 enum Command {
     Sheet,
     Slot,
@@ -46,39 +51,34 @@ enum Command {
 }
 
 fn named(word: &[u8]) -> Command {
-    if check::same(word, b"sheet") {
-        return Command::Sheet;
+    match word {
+        b"sheet" => Command::Sheet,
+        b"slot" => Command::Slot,
+        b"repeat" => Command::Repeat,
+        b"lengths" => Command::Lengths,
+        b"tally" => Command::Tally,
+        b"put" => Command::Put,
+        b"zeros" => Command::Zeros,
+        _ => Command::Other,
     }
-    if check::same(word, b"slot") {
-        return Command::Slot;
-    }
-    if check::same(word, b"repeat") {
-        return Command::Repeat;
-    }
-    if check::same(word, b"lengths") {
-        return Command::Lengths;
-    }
-    if check::same(word, b"tally") {
-        return Command::Tally;
-    }
-    if check::same(word, b"put") {
-        return Command::Put;
-    }
-    if check::same(word, b"zeros") {
-        return Command::Zeros;
-    }
-    Command::Other
 }
 
-fn open_sheet(rest: &[u8], run: &mut [u32], before: &mut [u32], set: Settings) {
+fn open_sheet<W: Write>(
+    to: &mut W,
+    rest: &[u8],
+    run: &mut [u32],
+    before: &mut [u32],
+    set: Settings,
+) {
     let mut bytes = [0u8; LINE_ROOM];
     match text::hex::line_bytes(rest, &mut bytes) {
-        Line::Bytes(n) => show_opening(&bytes[..n], run, before, set),
-        Line::Unclear => print::unclear(),
+        Line::Bytes(n) => show_opening(to, &bytes[..n], run, before, set),
+        Line::Unclear => print::unclear(to),
     }
 }
 
-fn run_slots(
+fn run_slots<W: Write>(
+    to: &mut W,
     rest: &[u8],
     times: u32,
     run: &mut [u32],
@@ -89,15 +89,16 @@ fn run_slots(
 ) -> Settings {
     let mut bytes = [0u8; LINE_ROOM];
     match text::hex::line_bytes(rest, &mut bytes) {
-        Line::Bytes(n) => show_slots(&bytes[..n], times, run, before, outcomes, sent, set),
+        Line::Bytes(n) => show_slots(to, &bytes[..n], times, run, before, outcomes, sent, set),
         Line::Unclear => {
-            print::unclear();
+            print::unclear(to);
             set
         }
     }
 }
 
-fn repeat_slots(
+fn repeat_slots<W: Write>(
+    to: &mut W,
     rest: &[u8],
     run: &mut [u32],
     before: &mut [u32],
@@ -110,13 +111,14 @@ fn repeat_slots(
     let times = values[0];
     let end = n.end;
     if times == 0 {
-        print::unclear();
+        print::unclear(to);
         return set;
     }
-    run_slots(&rest[end..], times, run, before, outcomes, sent, set)
+    run_slots(to, &rest[end..], times, run, before, outcomes, sent, set)
 }
 
-fn run_command(
+fn run_command<W: Write>(
+    to: &mut W,
     line: &[u8],
     run: &mut [u32],
     before: &mut [u32],
@@ -128,15 +130,15 @@ fn run_command(
     let rest = &line[end..];
     match named(&line[..end]) {
         Command::Sheet => {
-            open_sheet(rest, run, before, set);
+            open_sheet(to, rest, run, before, set);
             set
         }
-        Command::Slot => run_slots(rest, 1, run, before, outcomes, sent, set),
-        Command::Repeat => repeat_slots(rest, run, before, outcomes, sent, set),
-        Command::Lengths => settings::lengths(rest, set),
-        Command::Tally => settings::tally(rest, set),
+        Command::Slot => run_slots(to, rest, 1, run, before, outcomes, sent, set),
+        Command::Repeat => repeat_slots(to, rest, run, before, outcomes, sent, set),
+        Command::Lengths => settings::lengths(to, rest, set),
+        Command::Tally => settings::tally(to, rest, set),
         Command::Put => {
-            slices::put(rest, run);
+            slices::put(to, rest, run);
             set
         }
         Command::Zeros => {
@@ -144,13 +146,14 @@ fn run_command(
             set
         }
         Command::Other => {
-            print::unclear();
+            print::unclear(to);
             set
         }
     }
 }
 
-fn run_line(
+fn run_line<W: Write>(
+    to: &mut W,
     line: &[u8],
     run: &mut [u32],
     before: &mut [u32],
@@ -162,13 +165,14 @@ fn run_line(
         return set;
     }
     if line[0] == b'#' {
-        print::comment(line);
+        print::comment(to, line);
         return set;
     }
-    run_command(line, run, before, outcomes, sent, set)
+    run_command(to, line, run, before, outcomes, sent, set)
 }
 
-fn run_lines(
+fn run_lines<W: Write>(
+    to: &mut W,
     text: &[u8],
     run: &mut [u32],
     before: &mut [u32],
@@ -179,7 +183,7 @@ fn run_lines(
     let mut at: usize = 0;
     while at < text.len() {
         let end = text::find(text, at, b'\n');
-        set = run_line(&text[at..end], run, before, outcomes, sent, set);
+        set = run_line(to, &text[at..end], run, before, outcomes, sent, set);
         if end == text.len() {
             return;
         }
@@ -187,14 +191,15 @@ fn run_lines(
     }
 }
 
-fn main() {
-    let mut text = io::large_buffer();
-    let got = io::read_full(STDIN_FILENO, &mut text);
+fn main(rt: HostRuntime) {
+    let mut text = [0u8; TEXT_BYTES];
+    let got = read::read_full(&mut rt.stdin(), &mut text);
     let mut run = [0u32; RUN_ROOM];
     let mut before = [0u32; RUN_ROOM];
     let mut outcomes = [0u32; OUTCOMES_ROOM];
     let mut sent = [0u32; SENT_ROOM];
     run_lines(
+        &mut rt.stdout(),
         &text[..got],
         &mut run,
         &mut before,

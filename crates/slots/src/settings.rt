@@ -2,10 +2,11 @@
 ghost use Rattle.std.specs.Prelude.{◌≡◌, true};
 
 use run::tally::Tally;
+use std::io::Write;
 use text::number::Numbers;
 use text::{number, print};
 
-#[derive(Drop)]
+#[derive(Clone, Copy)]
 pub struct Settings {
     pub run: usize,
     pub outcomes: usize,
@@ -57,7 +58,7 @@ pub fn exactly(n: Numbers, count: usize, bytes: usize) -> bool
 }
 
 // Three lengths; the tally stays.
-pub fn lengths(rest: &[u8], set: Settings) -> Settings
+pub fn lengths<W: Write>(to: &mut W, rest: &[u8], set: Settings) -> Settings
     ensures { result.tally ≡ set.tally }
 {
     let n = number::first_numbers(rest, 3);
@@ -71,12 +72,12 @@ pub fn lengths(rest: &[u8], set: Settings) -> Settings
             tally,
         };
     }
-    print::unclear();
+    print::unclear(to);
     set
 }
 
 // Six totals; the lengths stay.
-pub fn tally(rest: &[u8], set: Settings) -> Settings
+pub fn tally<W: Write>(to: &mut W, rest: &[u8], set: Settings) -> Settings
     ensures { (result.run ≡ set.run) × (result.outcomes ≡ set.outcomes) × (result.sent ≡ set.sent) }
 {
     let n = number::first_numbers(rest, 6);
@@ -92,6 +93,6 @@ pub fn tally(rest: &[u8], set: Settings) -> Settings
         };
         return with_tally(set, totals);
     }
-    print::unclear();
+    print::unclear(to);
     set
 }

@@ -2,32 +2,38 @@
 use crate::settings::{Settings, with_tally};
 use crate::slices;
 use layout::RUN_NUMBERS;
-use libc::STDOUT_FILENO;
 use opening::Opening;
 use run::tally::Tally;
 use run::{Answer, Slotted};
+use std::io::Write;
 use text::print;
 
 // The end of a line: is the run's slice as it was, from a number on?
-fn end_line(run: &[u32], before: &[u32], from: usize) {
+fn end_line<W: Write>(to: &mut W, run: &[u32], before: &[u32], from: usize) {
     if slices::same_from(run, before, from) {
-        io::write_all(STDOUT_FILENO, b"; kept\n");
+        let _ = to.write_all(b"; kept\n");
     } else {
-        io::write_all(STDOUT_FILENO, b"; touched\n");
+        let _ = to.write_all(b"; touched\n");
     }
 }
 
-pub fn show_opening(bytes: &[u8], run: &mut [u32], before: &mut [u32], set: Settings) {
+pub fn show_opening<W: Write>(
+    to: &mut W,
+    bytes: &[u8],
+    run: &mut [u32],
+    before: &mut [u32],
+    set: Settings,
+) {
     slices::copy(run, before);
     let run_lent = slices::lent(run, set.run);
     match opening::open(bytes, &mut run[..run_lent]) {
         Opening::Opened => {
-            io::write_all(STDOUT_FILENO, b"opened");
-            end_line(run, before, RUN_NUMBERS);
+            let _ = to.write_all(b"opened");
+            end_line(to, run, before, RUN_NUMBERS);
         }
         Opening::Refused(number, place) => {
-            print::refusal(number, place);
-            end_line(run, before, 0);
+            print::refusal(to, number, place);
+            end_line(to, run, before, 0);
         }
     }
 }
@@ -52,18 +58,18 @@ fn next_slot(
     )
 }
 
-fn print_results(outcomes: &[u32], sent: &[u32], tally: Tally) {
-    io::write_all(STDOUT_FILENO, b"; outcomes");
-    slices::print_written(outcomes);
-    io::write_all(STDOUT_FILENO, b"; packets");
-    slices::print_written(sent);
-    io::write_all(STDOUT_FILENO, b"; tally");
-    print::next(tally.offered);
-    print::next(tally.taken_in);
-    print::next(tally.over);
-    print::next(tally.no_room);
-    print::next(tally.sent);
-    print::next(tally.waiting);
+fn print_results<W: Write>(to: &mut W, outcomes: &[u32], sent: &[u32], tally: Tally) {
+    let _ = to.write_all(b"; outcomes");
+    slices::print_written(to, outcomes);
+    let _ = to.write_all(b"; packets");
+    slices::print_written(to, sent);
+    let _ = to.write_all(b"; tally");
+    print::next(to, tally.offered);
+    print::next(to, tally.taken_in);
+    print::next(to, tally.over);
+    print::next(to, tally.no_room);
+    print::next(to, tally.sent);
+    print::next(to, tally.waiting);
 }
 
 // The run before the slot is copied, and the result slices are filled.
@@ -81,7 +87,8 @@ fn watched_slot(
     next_slot(offers, run, outcomes, sent, set)
 }
 
-fn show_slot(
+fn show_slot<W: Write>(
+    to: &mut W,
     offers: &[u8],
     run: &mut [u32],
     before: &mut [u32],
@@ -94,22 +101,23 @@ fn show_slot(
     let tally = slotted.tally;
     match answer {
         Answer::Sent(k) => {
-            io::write_all(STDOUT_FILENO, b"sent");
-            print::next(k);
-            print_results(outcomes, sent, tally);
-            end_line(run, before, RUN_NUMBERS);
+            let _ = to.write_all(b"sent");
+            print::next(to, k);
+            print_results(to, outcomes, sent, tally);
+            end_line(to, run, before, RUN_NUMBERS);
         }
         Answer::Refused(number, place) => {
-            print::refusal(number, place);
-            print_results(outcomes, sent, tally);
-            end_line(run, before, 0);
+            print::refusal(to, number, place);
+            print_results(to, outcomes, sent, tally);
+            end_line(to, run, before, 0);
         }
     }
     with_tally(set, tally)
 }
 
 // Some slots with the same offers; the last is shown.
-pub fn show_slots(
+pub fn show_slots<W: Write>(
+    to: &mut W,
     offers: &[u8],
     times: u32,
     run: &mut [u32],
@@ -126,5 +134,5 @@ pub fn show_slots(
         now = with_tally(now, tally);
         left -= 1;
     }
-    show_slot(offers, run, before, outcomes, sent, now)
+    show_slot(to, offers, run, before, outcomes, sent, now)
 }

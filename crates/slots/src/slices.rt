@@ -2,9 +2,10 @@
 ghost use Rattle.std.specs.Prelude.{◌≡◌, ◌++◌, ◌≤◌, min, length, take, drop, replicate};
 ghost use Rattle.guard.specs.Tells.{Tells};
 ghost use Rattle.slots.specs.Same.{SameFrom};
-ghost use Rattle.io.specs.Counts.{IsPrefixLen};
+ghost use Rattle.text.specs.Lines.{Counts};
 
 use crate::settings::exactly;
+use std::io::Write;
 use text::{number, print};
 
 // What stands in the result slices before a slot: no slot writes it, since its numbers are far smaller.
@@ -12,7 +13,7 @@ pub const FILLER: u32 = 4294967295;
 
 // How many of a slice's numbers are lent: `n`, or all of them.
 pub fn lent(numbers: &[u32], n: usize) -> usize
-    ensures { IsPrefixLen result numbers.now }
+    ensures { Counts result numbers.now }
 {
     text::at_most(n, numbers.len())
 }
@@ -71,17 +72,17 @@ fn written(numbers: &[u32]) -> usize
 }
 
 // Writes the numbers up to the last that is not the filler.
-pub fn print_written(numbers: &[u32]) {
+pub fn print_written<W: Write>(to: &mut W, numbers: &[u32]) {
     let n = written(numbers);
     let mut i: usize = 0;
     while i < n {
-        print::next(numbers[i]);
+        print::next(to, numbers[i]);
         i += 1;
     }
 }
 
 // Writes a number into the run's slice.
-pub fn put(rest: &[u8], run: &mut [u32]) {
+pub fn put<W: Write>(to: &mut W, rest: &[u8], run: &mut [u32]) {
     let n = number::first_numbers(rest, 2);
     let values = n.values;
     let place = values[0] as usize;
@@ -91,5 +92,5 @@ pub fn put(rest: &[u8], run: &mut [u32]) {
             return;
         }
     }
-    print::unclear();
+    print::unclear(to);
 }
