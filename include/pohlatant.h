@@ -1,8 +1,8 @@
 /*
  * Pohlatant for C and C++: judges the sheet of a link, opens a run on it, and runs the link slot by slot.
  *
- * The three functions are the entry points of the proved library (crates/clib). `rt staticlib clib` writes it as
- * target/staticlib/libclib.a, an archive for x86-64 Linux. It needs memset of the C library and nothing else.
+ * The three functions are the entry points of the proved library (crates/clib). `tools/library` writes it as
+ * crates/clib/out/libclib.a, an archive for x86-64 Linux. It needs memset of the C library and nothing else.
  * docs/RULES.md says what a sheet, a verdict and a slot are. examples/c has a program.
  *
  * What a caller lends

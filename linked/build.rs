@@ -1,7 +1,7 @@
-//! Links the proved library, which `rt staticlib clib` writes.
+//! Links the proved library, which `tools/library` writes.
 
 fn main() {
-    let folder = concat!(env!("CARGO_MANIFEST_DIR"), "/../target/staticlib");
+    let folder = concat!(env!("CARGO_MANIFEST_DIR"), "/../crates/clib/out");
     println!("cargo:rerun-if-changed={folder}/libclib.a");
     println!("cargo:rustc-link-search=native={folder}");
     println!("cargo:rustc-link-lib=static=clib");

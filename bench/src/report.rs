@@ -13,7 +13,7 @@ const HEAD: &str = "# Speed
 
 `bench/run` writes this page. Three programs do the same work in one process:
 
-- proved: the library of this project, linked from `target/staticlib/libclib.a` and called through `crates/clib`;
+- proved: the library of this project, linked from `crates/clib/out/libclib.a` and called through `crates/clib`;
 - optimised: a Rust program with the same method, the same layout of the run's slice and the same checks, the test of
   refusal 14 among them, written for speed (`bench/src/rival`). Before anything is timed it is held to the proved
   library on random sheets and runs, number by number;
@@ -62,9 +62,6 @@ fn machine() {
         name.unwrap_or("not known"),
         cores.count()
     );
-    if let Ok(real) = std::env::var("EMULATED_ON") {
-        println!("All ran under an emulator on {real}: only the ratios mean something.");
-    }
 }
 
 fn microseconds(seconds: f64) -> String {
