@@ -1,4 +1,4 @@
--- A curve as document 01 has it, a table and a linear tail, with the theorem that its three rules leave one function. Assumes nothing.
+-- A curve as document 01 has it: a table and a linear tail, and its three rules as what any function may follow. Assumes nothing.
 use Rattle.std.specs.Prelude.{◌≡◌, List, true, false, leb, get_or}
 use Prim.Native.Nat.{ℕ, zero, suc, ◌+◌, ◌-◌, ◌<◌}
 use Rattle.std.proofs.Math.ListN.{length}

@@ -1,4 +1,4 @@
--- Two numbers in order, one way or the other, and functions that never fall. Assumes nothing.
+-- Functions that never fall. Assumes nothing.
 use Rattle.std.specs.Prelude.{ℕ, ◌≤◌}
 
 -- f never falls

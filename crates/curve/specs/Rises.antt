@@ -1,4 +1,4 @@
--- What makes a table and a rate a curve of document 01: it never falls. Then its values never fall at any slot count. Assumes nothing.
+-- What makes a table and a rate a curve of document 01: it never falls. Assumes nothing.
 use Rattle.std.specs.Prelude.{ℕ, suc, ◌+◌, ◌-◌, ◌≤◌, ◌<◌, length}
 use Rattle.curve.specs.Curve.{Curve, entry}
 

@@ -1,4 +1,4 @@
--- The blocks that opening writes one after the other: where they lie, that each finds zeros in its place, and what the run is at the end. Assumes nothing.
+-- What moves in a session's block, as it is before slot 1. Assumes nothing.
 use Rattle.std.specs.Prelude.{ℕ}
 use Rattle.sheet.specs.Sheet.{Sheet, session}
 use Rattle.history.specs.Image.{Moving, fresh}

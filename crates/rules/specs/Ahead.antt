@@ -1,5 +1,5 @@
--- A fixed amount of history is exact: of a curve and of all slots so far it is enough to keep n numbers, which one rule brings forward from slot to slot.
--- Over any A, with A(s) the packets taken in by slot s; services and envelopes have one form of table. Assumes nothing.
+-- What lies ahead of a curve after t slots, and what it is for n numbers to hold it. Over any A, with A(s) the packets taken in by slot s; services
+-- and envelopes have one form of table. Assumes nothing.
 use Rattle.std.specs.Prelude.{◌≡◌, List, ℕ, suc, ◌+◌, ◌-◌, ◌<◌, length, get_or}
 use Rattle.curve.specs.Least.{least}
 use Rattle.curve.specs.Curve.{Curve, at}

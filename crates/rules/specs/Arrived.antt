@@ -1,5 +1,4 @@
--- Every packet that waits or was sent is one that its session took in, with the number and the deadline of that slot. So the laws of new packets are laws of all.
--- Assumes nothing.
+-- The packets that wait together in a slot. Assumes nothing.
 use Rattle.std.specs.Prelude.{length}
 use mathlib.Core.List.{List, ◌++◌}
 use Prim.Native.Nat.{ℕ}

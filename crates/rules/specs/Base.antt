@@ -1,4 +1,4 @@
--- The theorem over a history as a list of offers, for a sheet that a reader accepts and that the verdict passes: no assumption is left but these two.
+-- A history of offers as a function of the slot. Assumes nothing.
 use Rattle.std.specs.Prelude.{List, [], ℕ, get_or}
 
 -- the offers of slot u + 1 in a history

@@ -1,5 +1,5 @@
--- Why a sheet that passes keeps its promises, over functions of slots alone: the window lemma, the count lemma, and the theorem of the two. What a slot can
--- send, how far a deadline looks back and when a packet is due come in as hypotheses, so that other rules for them need no new proof. Assumes nothing.
+-- What the argument for a sheet that passes speaks of, over functions of slots alone: a window of slots in which only packets of one kind were sent, and how
+-- many packets are due. Assumes nothing.
 use Rattle.std.specs.Prelude.{◌≡◌, ◌≢◌, Bool, ℕ, ◌+◌, ◌≤◌, ◌<◌}
 use Rattle.curve.specs.Total.{total}
 use Rattle.rules.specs.Count.{count_to}

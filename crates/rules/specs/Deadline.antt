@@ -1,4 +1,4 @@
--- Deadlines in document 01's words (rule 3 of one slot), and the DUE LAW: by which slots a deadline has come. Assumes nothing.
+-- Deadlines in document 01's words (rule 3 of one slot), and the number that stands for one. Assumes nothing.
 use Prim.Native.Nat.{ℕ, zero, suc, ◌+◌, ◌-◌, max}
 use Rattle.curve.specs.Total.{total}
 use Rattle.curve.specs.Delay.{Due, slot, never}

@@ -1,4 +1,4 @@
--- THE MAIN THEOREM: what a sheet that passes promises at the end of every slot, of every run on it. Assumes nothing.
+-- What is kept at the end of every slot of a run: what THE MAIN THEOREM says of a sheet that passes. Assumes nothing.
 use Rattle.std.specs.Prelude.{◌≡◌, false, ℕ, ◌+◌, ◌-◌, ◌≤◌, ◌<◌}
 use mathlib.Core.List.{List, Memᴰ}
 use Rattle.curve.specs.Total.{total}

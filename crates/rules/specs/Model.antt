@@ -1,5 +1,5 @@
 -- One slot as document 01 has it, rule by rule and in its order, over a sheet and the whole past: nothing of an older slot is forgotten. The rules are
--- definitions that compute, and at the end 01's examples are run on them: a wrong rule shows there as another run. Assumes nothing.
+-- definitions that compute, and proofs/ModelLaws.antt runs 01's examples on them: a wrong rule shows there as another run. Assumes nothing.
 --
 -- Sessions are indexed from 0 here; a packet carries its session as 01 counts it, from 1. What happened in slot u + 1 stands at index u of a list.
 use Rattle.std.specs.Prelude.{◌≡◌, Bool, true, false, List, [], ◌∷◌, ◌++◌, leb, eqb, length, get_or}

@@ -1,4 +1,4 @@
--- One step after the other over a list, and the same as a sequence: a history may be read either way. Assumes nothing.
+-- One step after the other over a list. Assumes nothing.
 use mathlib.Core.List.{List, [], ◌∷◌}
 
 -- the first of the list first

@@ -1,4 +1,4 @@
--- A kept table is itself a curve of the same period and rate, and a deadline is a delay look-up in it: what serves curves serves the history too. Assumes nothing.
+-- A kept table as a curve of the same period and rate. Assumes nothing.
 use Rattle.std.specs.Prelude.{List, ℕ}
 use Rattle.curve.specs.Curve.{Curve}
 

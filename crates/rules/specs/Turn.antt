@@ -1,5 +1,4 @@
--- A session's packets are sent in turn: those sent are the numbers 1..k and those that wait the numbers k+1..A, where k packets of it were sent and A taken in.
--- So a run needs no list of what waits. Assumes nothing.
+-- The packets of a session up to a number. Assumes nothing.
 use Rattle.std.specs.Prelude.{Bool, ◌&&◌}
 use Prim.Native.Nat.{ℕ}
 use Rattle.std.proofs.Math.Dec.{leb}

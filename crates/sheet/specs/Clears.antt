@@ -1,4 +1,4 @@
--- What it says of the numbers that no line of a group applies, for the head, a session's fields and a table, each both ways. So what reads and what is written meet in facts and not in tests. Assumes nothing.
+-- What the numbers of a head, of a session's fields and of a table are where no line of their group applies. So what reads and what is written meet in facts and not in tests. Assumes nothing.
 use Rattle.std.specs.Prelude.{◌≡◌, ℕ, ◌-◌, ◌≤◌, ◌<◌}
 use mathlib.Core.List.{List, ◌∷◌}
 use Rattle.std.proofs.Math.ListN.{length, get_or}

@@ -1,4 +1,4 @@
--- Bytes that read give a sheet within all of document 01's limits, so that what stands on a sheet may take its limits for granted. Assumes nothing.
+-- What it is for the numbers of a list to be bytes. Assumes nothing.
 use Rattle.std.specs.Prelude.{List, ℕ, ◌<◌, get_or}
 
 -- each number is a byte

@@ -1,4 +1,4 @@
--- Where each session's record starts in the sheet's bytes, so that a session can be spoken of by its index alone: what it says, that its lines do not apply in a sheet that reads, and that it lies within the bytes. Assumes nothing.
+-- Where each session's record starts in the sheet's bytes, so that a session can be spoken of by its index alone. Assumes nothing.
 use Rattle.std.specs.Prelude.{List, ℕ, zero, suc, ◌+◌, drop}
 use Rattle.sheet.specs.Limits.{head_bytes}
 use Rattle.sheet.specs.Bytes.{record_bytes}

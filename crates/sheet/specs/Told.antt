@@ -1,4 +1,4 @@
--- What the reader's answer says in document 01's numbers, what it has to say of the bytes, and that only one answer says it. Assumes nothing.
+-- What the reader's answer says in document 01's numbers, and what it has to say of the bytes. Assumes nothing.
 use Rattle.std.specs.Prelude.{◌≡◌, true, false, List, ℕ, ◌-◌, ltb, length, get_or, take, drop, replicate}
 use Rattle.curve.specs.Curve.{Curve}
 use Rattle.curve.specs.Lookup.{curve_of}

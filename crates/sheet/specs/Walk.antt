@@ -1,4 +1,4 @@
--- What the reader keeps on its way from session to session, and what it may answer where the way ends. Assumes nothing.
+-- What the reader keeps on its way from session to session. Assumes nothing.
 use Rattle.std.specs.Prelude.{◌≡◌, List, length, get_or, drop}
 use Prim.Native.Nat.{ℕ, ◌-◌, ◌≤◌}
 use Rattle.sheet.specs.Limits.{most_sessions}

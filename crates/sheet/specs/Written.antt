@@ -1,4 +1,4 @@
--- The bytes of a sheet as document 01 lays them out, how many they are, and that each is a byte, so that the limits can be shown to leave no sheet without bytes. Assumes nothing.
+-- The bytes of a sheet as document 01 lays them out. Assumes nothing.
 use Rattle.std.specs.Prelude.{List, [], ◌∷◌, ◌++◌, ℕ, ◌+◌, ◌-◌, ◌<◌, length, get_or}
 use Rattle.words.specs.Written.{two_bytes, four_bytes, each_two}
 use Rattle.sheet.specs.Limits.{version, head_bytes, length_bytes}

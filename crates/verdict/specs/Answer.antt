@@ -1,4 +1,4 @@
--- Every load of a sheet has an answer, passed or failed, against any link that the stop rule takes, and a walk finds it. Assumes nothing.
+-- How a walk over slot counts may come out: passed so far, or failed. Assumes nothing.
 use Rattle.std.specs.Prelude.{ℕ, ◌+◌, ◌≤◌}
 use Rattle.verdict.specs.Passes.{Fails}
 use Rattle.verdict.specs.Walk.{Lead}

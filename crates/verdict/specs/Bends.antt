@@ -1,5 +1,4 @@
--- Past the tables the load bends down along a period: it grows by no more in the next period than in the last. This is what lets a
--- finite walk speak of every slot count. Assumes nothing.
+-- What it is for a load to bend down along a period: it grows by no more in the next period than in the last. Assumes nothing.
 use Rattle.std.specs.Prelude.{ℕ, ◌+◌, ◌≤◌, ◌<◌}
 
 -- f bends down along P slots, past T0

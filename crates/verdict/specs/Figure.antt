@@ -1,5 +1,4 @@
--- A session's delay figure: the largest, over the envelope's table positions x = 1..n, of the least Δ ≥ 0 with b(x) ≤ S(x+Δ).
--- It comes from the delay look-up, D(b(x)) - x. Assumes nothing.
+-- A session's delay figure: the largest, over the envelope's table positions x = 1..n, of the least Δ ≥ 0 with b(x) ≤ S(x+Δ). Assumes nothing.
 use Rattle.std.specs.Prelude.{ℕ, zero, suc, ◌+◌, ◌*◌, ◌≤◌, ◌<◌, max, length}
 use Rattle.curve.specs.Curve.{Curve, at}
 use Rattle.curve.specs.Delay.{Due, slot, never, find}

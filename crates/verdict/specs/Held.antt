@@ -1,4 +1,4 @@
--- The two windows of the search at slot count t, the first values and the last ones, and that the four numbers of a try stand in them. Assumes nothing.
+-- What stands in the two windows of the search, the first values and the last ones, before slot count t is tried and while it is. Assumes nothing.
 use Rattle.std.specs.Prelude.{◌≡◌, List, ℕ, ◌+◌, ◌≤◌, min, length}
 use Rattle.verdict.specs.Window.{window_places, Window}
 

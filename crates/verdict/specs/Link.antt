@@ -1,4 +1,4 @@
--- What the stop rule asks of a link, and that the link of document 01 has it, which sends up to c packets in every slot: with c up to 64 every walk ends by 131,216. Assumes nothing.
+-- What the stop rule asks of a link, and the slot count by which every walk ends. Assumes nothing.
 use Rattle.std.specs.Prelude.{ℕ, ◌+◌, ◌*◌, ◌≤◌}
 use Rattle.verdict.specs.Stop.{Gains}
 

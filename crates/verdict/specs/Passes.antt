@@ -1,5 +1,5 @@
 -- What the verdict means, over any load L and any C, what the link can send in t slots: the slack and its first slot count, or the first
--- failing slot count, among all t ≥ 1. There is no horizon, and there is only one answer. Assumes nothing.
+-- failing slot count, among all t ≥ 1. There is no horizon. Assumes nothing.
 use Rattle.std.specs.Prelude.{◌≡◌, ℕ, ◌+◌, ◌≤◌, ◌<◌}
 
 -- Passed: m, the slack, is the least of C(t) - L(t) over t ≥ 1, and w is the least t that gives it

@@ -1,4 +1,4 @@
--- What the search keeps at each of its three loops, and each step of it as a lemma over plain numbers: the shares tried, the load of the sessions so far, and the walk over slot counts. Assumes nothing.
+-- What the search keeps at each of its three loops: the shares tried, the load of the sessions so far, and the walk over slot counts. Assumes nothing.
 use Rattle.std.specs.Prelude.{◌≡◌, List, ℕ, ◌+◌, ◌≤◌, ◌<◌, length, get_or}
 use Rattle.sheet.specs.Sheet.{session}
 use Rattle.sheet.specs.Bytes.{session_of, sheet_of}

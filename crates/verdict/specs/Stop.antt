@@ -1,5 +1,5 @@
--- The stop rule, over any load that bends and any link that gains the same in every period: once the last P slot counts have no less slack
--- than a period before, the slack seen so far is the slack of all; and a walk that finds no failing slot count comes to such a place. Assumes nothing.
+-- The words of the stop rule, over any load and any link: a slack as far as T slot counts can tell, a link that gains the same in every period, and slot
+-- counts at which the load has grown by no more. Assumes nothing.
 use Rattle.std.specs.Prelude.{◌≡◌, ℕ, ◌+◌, ◌≤◌, ◌<◌}
 
 -- passed, as far as t = 1..T can tell

@@ -1,5 +1,5 @@
 -- What a walk over the slot counts 1, 2, 3, .. knows before it tries t: the least slack so far, how many slot counts in a row were
--- steady, and the last 16 loads in a ring. Each step is a lemma of its own, for the program's loop to cite. Assumes nothing.
+-- steady, and the last 16 loads in a ring. Assumes nothing.
 use Rattle.std.specs.Prelude.{◌≡◌, List, ℕ, suc, ◌+◌, ◌-◌, ◌%◌, ◌≤◌, ◌<◌, length, get_or}
 use Rattle.verdict.specs.Stop.{Steady}
 
