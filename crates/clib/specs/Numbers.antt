@@ -1,9 +1,10 @@
 -- The library's answers as lists of numbers, for callers that know numbers alone. Definitions alone.
-use Rattle.std.specs.Prelude.{List, [], ◌∷◌, map, ℕ, get_or}
+use Rattle.std.specs.Prelude.{List, [], ◌∷◌, map, ℕ}
 use Rattle.curve.specs.declared.Slots.{Slots}
 use Rattle.verdict.specs.Verdict.{Case, passed, failed, unreadable}
 use Rattle.opening.specs.Open as opening
 use Rattle.run.specs.Slot as slot
+use Rattle.run.specs.Totals.{six_totals, tally_of as tally_from}
 use Rattle.run.specs.declared.tally.Tally.{Tally}
 
 -- how many numbers an answer to opening or a slot has, a tally, and an answer to judging
@@ -26,12 +27,12 @@ abbrev pub slot_numbers : slot.Reply → List ℕ
 slot_numbers (slot.sent k) = 0 ∷ k ∷ []
 slot_numbers (slot.refused number place) = number ∷ place ∷ []
 
--- the six totals in 01's order
+-- the six totals in 01's order, and back
 abbrev pub tally_numbers : Tally → List ℕ
-tally_numbers t = t.offered ∷ t.taken_in ∷ t.over ∷ t.no_room ∷ t.sent ∷ t.waiting ∷ []
+tally_numbers t = six_totals t
 
 abbrev pub tally_of : List ℕ → Tally
-tally_of l = record { offered = get_or l 0 0; taken_in = get_or l 1 0; over = get_or l 2 0; no_room = get_or l 3 0; sent = get_or l 4 0; waiting = get_or l 5 0 }
+tally_of l = tally_from l
 
 -- the case: 0 with slack and slot count, 1 with the failing slot count, 2 with the refusal's number and place
 abbrev pub case_numbers : Case → List ℕ

@@ -3,8 +3,6 @@
 
 ghost use Rattle.clib.specs.Told.{OpensInto, SlotsInto, JudgesInto};
 
-use opening::Opening;
-use run::Answer;
 use verdict::Verdict;
 
 mod numbers;
@@ -16,6 +14,9 @@ const TALLY_NUMBERS: usize = 6;
 
 const JUDGED_NUMBERS: usize = 19;
 
+// The figures stand behind the case and its two numbers.
+const FIGURES_AT: usize = 3;
+
 // Opens a run. The answer is 0 and 0, or the refusal's number and place.
 #[unsafe(no_mangle)]
 pub extern "C" fn pohlatant_open(bytes: &[u8], run: &mut [u32], answer: &mut [u32]) -> bool
@@ -24,17 +25,12 @@ pub extern "C" fn pohlatant_open(bytes: &[u8], run: &mut [u32], answer: &mut [u3
     if answer.len() < ANSWER_NUMBERS {
         return false;
     }
-    let opening = opening::open(bytes, run);
-    match opening {
-        Opening::Opened => {
-            numbers::put_two(answer, 0, 0);
-            true
-        }
-        Opening::Refused(number, place) => {
-            numbers::put_two(answer, number, place);
-            true
-        }
-    }
+    let told = match opening::open(bytes, run) {
+        Ok(()) => [0, 0],
+        Err(refusal) => [refusal.number(), refusal.place],
+    };
+    numbers::put(answer, 0, &told);
+    true
 }
 
 // One slot. The tally's six totals stand in the order offered, taken in, over, no room, sent, waiting. The answer is 0 and how many packets were sent, or the refusal's number and place.
@@ -57,19 +53,13 @@ pub extern "C" fn pohlatant_slot(
     }
     let before = numbers::tally_of(tally);
     let slotted = run::slot_by_value(run, offers, outcomes, sent, before);
-    let after = slotted.tally;
-    let reply = slotted.answer;
-    numbers::put_tally(tally, after);
-    match reply {
-        Answer::Sent(count) => {
-            numbers::put_two(answer, 0, count);
-            true
-        }
-        Answer::Refused(number, place) => {
-            numbers::put_two(answer, number, place);
-            true
-        }
-    }
+    let told = match slotted.answer {
+        Ok(count) => [0, count],
+        Err(refusal) => [refusal.number(), refusal.place],
+    };
+    numbers::put(tally, 0, &slotted.tally.totals());
+    numbers::put(answer, 0, &told);
+    true
 }
 
 // Judges a sheet. The answer is the case with two numbers (0, slack and its slot count; 1, the failing slot count and 0; 2, the refusal's number and place) and the sixteen figures.
@@ -81,21 +71,12 @@ pub extern "C" fn pohlatant_judge(bytes: &[u8], answer: &mut [u32]) -> bool
         return false;
     }
     let judged = verdict::judge(bytes);
-    let v = judged.verdict;
-    let figures = judged.figures;
-    numbers::put_figures(answer, figures);
-    match v {
-        Verdict::Passed(slack, t) => {
-            numbers::put_three(answer, 0, slack.0, t.0);
-            true
-        }
-        Verdict::Failed(t) => {
-            numbers::put_three(answer, 1, t.0, 0);
-            true
-        }
-        Verdict::Unreadable(number, place) => {
-            numbers::put_three(answer, 2, number, place);
-            true
-        }
-    }
+    let told = match judged.verdict {
+        Verdict::Passed(slack, t) => [0, slack.0, t.0],
+        Verdict::Failed(t) => [1, t.0, 0],
+        Verdict::Unreadable(refusal) => [2, refusal.number(), refusal.place],
+    };
+    numbers::put(answer, FIGURES_AT, &numbers::figures_of(judged.figures));
+    numbers::put(answer, 0, &told);
+    true
 }

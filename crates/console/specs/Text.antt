@@ -18,12 +18,16 @@ decimal n = last_digits 10 (places 9 n) n
 abbrev pub next : ℕ → List ℕ
 next n = 32 ∷ decimal n
 
+-- no line takes more than this
+abbrev pub line_bytes : ℕ
+line_bytes = 256
+
 -- refused NUMBER PLACE
 unfoldable pub refused_line : ℕ → ℕ → List ℕ
 refused_line number place = (114 ∷ 101 ∷ 102 ∷ 117 ∷ 115 ∷ 101 ∷ 100 ∷ []) ++ (next number ++ (next place ++ (10 ∷ [])))
 
 -- the fewest digits that hold a number are those counted
-places_are : (most k n : ℕ) → k ≤ suc most → IsDigitCount 10 1 n k → k ≡ places most n
+pub places_are : (most k n : ℕ) → k ≤ suc most → IsDigitCount 10 1 n k → k ≡ places most n
 unfolding places
 places_are zero k n h f = omega (arith, f.0)
 places_are (suc most) zero n h f = absurd (omega (arith, f.0))

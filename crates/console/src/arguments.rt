@@ -1,6 +1,9 @@
 // The program's arguments, as far as every program treats them alike.
-ghost use Rattle.std.specs.Prelude.{◌≤◌, length};
+ghost use Rattle.std.specs.Prelude.{List, ℕ, [], ◌∷◌, ◌≤◌, length};
+ghost use Rattle.console.specs.Written.{AppendsEach};
+ghost use Rattle.console.specs.Shown.{Shown, AllShown, unknown_argument};
 
+use crate::failure::hand;
 use std::env::{Env, FillError};
 use std::io::Write;
 
@@ -8,25 +11,12 @@ use std::io::Write;
 const SHOWN_BYTES: usize = 256;
 
 // A byte as it is shown in a message: one that would end or disturb the line is a question mark.
-fn shown(b: u8) -> u8 {
-    if b < b' ' {
-        return b'?';
-    }
-    if b == 127 {
-        return b'?';
-    }
-    b
-}
-
-// Puts what is shown of each byte in its place.
-fn show(word: &mut [u8], n: usize)
-    requires { n ≤ length word.old }
+fn shown(b: u8) -> u8
+    ensures { Shown result }
 {
-    let mut i: usize = 0;
-    while i < n {
-        let b = word[i];
-        word[i] = shown(b);
-        i += 1;
+    match b {
+        b' '..=b'~' | 128..=255 => b,
+        _ => b'?',
     }
 }
 
@@ -48,11 +38,15 @@ fn argument<V: Env>(env: &V, i: usize, room: &mut [u8]) -> usize
 }
 
 // Tells in one line that the program does not know its i-th argument, with a hint.
-pub fn tell_unknown<V: Env, E: Write>(env: &V, errors: &mut E, i: usize, hint: &[u8]) {
+pub fn tell_unknown<V: Env, E: Write>(env: &V, errors: &mut E, i: usize, hint: &[u8])
+    ensures { (word : List ℕ) × AllShown word × AppendsEach (E.contents errors.old) (E.contents errors.new) (unknown_argument ∷ word ∷ hint.now ∷ []) }
+{
     let mut word = [0u8; SHOWN_BYTES];
     let n = argument(env, i, &mut word);
-    show(&mut word, n);
-    let _ = errors.write_all(b"unknown argument: ");
-    let _ = errors.write_all(&word[..n]);
-    let _ = errors.write_all(hint);
+    for b in &mut word {
+        *b = shown(*b);
+    }
+    hand(errors, b"unknown argument: ");
+    hand(errors, &word[..n]);
+    hand(errors, hint);
 }

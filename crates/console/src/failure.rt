@@ -1,7 +1,10 @@
 // What is told where a read or a write fails.
-ghost use Rattle.std.specs.Prelude.{◌≤◌, length};
+ghost use Rattle.std.specs.Prelude.{List, ℕ, [], ◌∷◌};
+ghost use Rattle.console.specs.Written.{AppendsSome, AppendsEach};
 
-use std::io::{Error, Write};
+use crate::text::Text;
+use crate::wait::MOST_TRIES;
+use std::io::{Error, ErrorKind, Write};
 
 // More than any of the system's texts for an error takes.
 const TEXT_BYTES: usize = 256;
@@ -14,24 +17,34 @@ fn words(text: &str) -> &str {
     }
 }
 
-// Tells in one line what failed, as the caller names it, and why.
-pub fn tell<E: Write>(errors: &mut E, what: &[u8], error: &Error) {
-    let mut text = [0u8; TEXT_BYTES];
-    let n = text_of(error, &mut text);
-    let _ = errors.write_all(what);
-    let _ = errors.write_all(b": ");
-    if let Ok(text) = std::str::from_utf8(&text[..n]) {
-        let _ = errors.write_all(words(text).as_bytes());
+// Hands some text to a writer as far as it takes it: nobody could be told that it does not. A loop of its own, since `write_all` of std does not
+// say what a writer took that then failed.
+pub fn hand<W: Write>(writer: &mut W, text: &[u8])
+    ensures { AppendsSome (W.contents writer.old) (W.contents writer.new) text.now }
+{
+    let mut rest = text;
+    for _ in 0..MOST_TRIES {
+        if rest.is_empty() {
+            return;
+        }
+        match writer.write(rest) {
+            Ok(0) => return,
+            Ok(n) => rest = &rest[n..],
+            Err(error) if error.kind() == ErrorKind::Interrupted => {}
+            Err(_) => return,
+        }
     }
-    let _ = errors.write_all(b"\n");
 }
 
-// Puts an error's text at the start of some room, and answers how long it is.
-fn text_of(error: &Error, room: &mut [u8]) -> usize
-    ensures { result ≤ length room.old }
+// Tells in one line what failed, as the caller names it, and why.
+pub fn tell<E: Write>(errors: &mut E, what: &[u8], error: &Error)
+    ensures { (why : List ℕ) × AppendsEach (E.contents errors.old) (E.contents errors.new) (what.now ∷ (58 ∷ 32 ∷ []) ∷ why ∷ (10 ∷ []) ∷ []) }
 {
-    let all = room.len();
-    let mut rest = room;
-    let _ = write!(&mut rest, "{error}");
-    all.saturating_sub(rest.len())
+    let mut text: Text<TEXT_BYTES> = Text::new();
+    let _ = write!(text, "{error}");
+    let why = std::str::from_utf8(text.as_slice()).map_or("", words);
+    hand(errors, what);
+    hand(errors, b": ");
+    hand(errors, why.as_bytes());
+    hand(errors, b"\n");
 }

@@ -1,4 +1,4 @@
-// What every program shares with the world: input that is waited for, a page of text for its output, text and numbers put into it, and the program's arguments.
+// What every program shares with the world: input that is waited for, text of a bounded length, pages of it for output, and the program's arguments.
 #![tactic(auto)]
 
 pub mod arguments;
@@ -6,5 +6,5 @@ pub mod failure;
 pub mod input;
 pub mod nap;
 pub mod output;
-pub mod put;
+pub mod text;
 pub mod wait;

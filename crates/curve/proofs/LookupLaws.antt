@@ -2,6 +2,8 @@
 use Rattle.std.specs.Prelude.{◌≡◌, ◌⊎◌, ℕ, zero, suc, ◌+◌, ◌-◌, ◌*◌, ◌/◌, ◌≤◌, ◌<◌, length, get_or}
 use Rattle.std.proofs.Common.{ap, ◌∙◌, inl, inr, div-mul-le_self, mul-le-mul_left, add-one, arith}
 use Rattle.std.proofs.Math.Nat.{lt-div-mul-add}
+use Rattle.std.specs.Int.{div_ceil}
+use Rattle.std.proofs.lemmas.Grind.{div_ceil_times}
 use Rattle.curve.proofs.OrderLaws.{le_or_lt}
 use Rattle.curve.specs.Curve.{Curve, at}
 use Rattle.curve.proofs.CurveLaws.{at_table, at-periods}
@@ -41,23 +43,36 @@ first_in P F q i h w b = record { from = omega arith; reaches = rw (add-one i, a
     below zero l m = absurd (omega arith)
     below (suc x) l m = rw (at_table P F x (omega arith)) (b x (omega arith))
 
--- as many as the program computes
-pub periods : (F : Curve) (q : ℕ) → 1 ≤ F.rate → get_or F.table (length F.table - 1) 0 < q
-    → Periods F q ((q - get_or F.table (length F.table - 1) 0 + (F.rate - 1)) / F.rate)
-periods F q r s =
-    let g = q - get_or F.table (length F.table - 1) 0 in
-    let a = g + (F.rate - 1) in
-    let j = a / F.rate in
-    let low : j * F.rate ≤ a = div-mul-le_self a F.rate in
-    let high : a < j * F.rate + F.rate = lt-div-mul-add r in
-    record { short = s; up = omega arith; down = omega arith; few = few j low }
+-- the least j whose rates make up what the table's last value lacks
+pub periods_by : (F : Curve) (q j : ℕ) → 1 ≤ F.rate → get_or F.table (length F.table - 1) 0 < q
+    → q - get_or F.table (length F.table - 1) 0 ≤ j * F.rate
+    → j * F.rate < q - get_or F.table (length F.table - 1) 0 + F.rate
+    → Periods F q j
+periods_by F q j r s low high = record { short = s; up = omega arith; down = omega arith; few = few j high }
   where
-    few : (j : ℕ) → j * F.rate ≤ q - get_or F.table (length F.table - 1) 0 + (F.rate - 1) → j ≤ q
+    few : (j : ℕ) → j * F.rate < q - get_or F.table (length F.table - 1) 0 + F.rate → j ≤ q
     few zero h = omega arith
     few (suc j) h =
         let e : suc j * F.rate ≡ j * F.rate + F.rate = omega arith in
         let more : j * 1 ≤ j * F.rate = mul-le-mul_left j r in
         omega arith
+
+-- as the quotient that is rounded up
+pub periods : (F : Curve) (q : ℕ) → 1 ≤ F.rate → get_or F.table (length F.table - 1) 0 < q
+    → Periods F q ((q - get_or F.table (length F.table - 1) 0 + (F.rate - 1)) / F.rate)
+periods F q r s =
+    let g = q - get_or F.table (length F.table - 1) 0 in
+    let a = g + (F.rate - 1) in
+    let low : a / F.rate * F.rate ≤ a = div-mul-le_self a F.rate in
+    let high : a < a / F.rate * F.rate + F.rate = lt-div-mul-add r in
+    periods_by F q (a / F.rate) r s (omega arith) (omega arith)
+
+-- and as the program computes it
+pub periods_up : (F : Curve) (q : ℕ) → 1 ≤ F.rate → get_or F.table (length F.table - 1) 0 < q
+    → Periods F q (div_ceil (q - get_or F.table (length F.table - 1) 0) F.rate)
+periods_up F q r s =
+    let t = div_ceil_times (q - get_or F.table (length F.table - 1) 0) F.rate r in
+    periods_by F q _ r s t.0 t.1
 
 -- a value that is still below q is not the last
 pub inside : (F : Curve) (q j k : ℕ) → Periods F q j → k < length F.table → get_or F.table k 0 + j * F.rate < q → k + 1 < length F.table

@@ -7,3 +7,4 @@ pub mod Rises
 pub mod Conv
 pub mod Delay
 pub mod Lookup
+pub mod Drawn

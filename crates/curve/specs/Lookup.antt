@@ -7,6 +7,14 @@ use Rattle.curve.specs.Curve.{Curve}
 abbrev pub curve_of : List ℕ → ℕ → Curve
 curve_of bytes rate = record { table = words bytes; rate = rate }
 
+-- and the curve whose table lies in numbers
+abbrev pub curve_with : List ℕ → ℕ → Curve
+curve_with table rate = record { table = table; rate = rate }
+
+-- where a look-up may begin: the table's first `start` numbers are below what is wanted
+abbrev pub Begins : List ℕ → ℕ → ℕ → Type 0
+Begins table want start = (start ≤ length table) × ((j : ℕ) → j < start → get_or table j 0 < want)
+
 -- what keeps the look-ups' numbers within 32 bits
 pub record Sized (P : ℕ) (F : Curve) : Type 0 where
   pub period : 1 ≤ P

@@ -5,6 +5,7 @@ use Rattle.std.proofs.Math.Path.{refl, sym, subst, ap}
 use Rattle.std.proofs.Common.{◌∙◌, inl, inr, arith, le-ltb}
 use Rattle.std.proofs.Math.ListN.{get_or, length-map, get_or-map, get_or-eq_default}
 use Rattle.curve.proofs.OrderLaws.{le_or_lt}
+use Rattle.refusal.specs.Numbers.{cause_of}
 use Rattle.curve.specs.declared.Slots.{Slots}
 use Rattle.sheet.specs.Limits.{most_sessions}
 use Rattle.sheet.specs.Refusal.{Refusal, none, refused}
@@ -13,6 +14,7 @@ use Rattle.sheet.specs.Bytes.{sheet_of}
 use Rattle.sheet.specs.Reading.{reading}
 use Rattle.sheet.specs.Makes.{AllBytes}
 use Rattle.sheet.proofs.MakesLaws.{makes}
+use Rattle.sheet.proofs.Known.{reading-known}
 use Rattle.verdict.specs.Bends.{Bends}
 use Rattle.verdict.proofs.BendsLaws.{load-bends-past}
 use Rattle.verdict.specs.Figure.{largest}
@@ -78,12 +80,12 @@ in_slots n = record { 0 = n }
 abbrev answered : Case → Verdict
 answered (passed slack t) = Passed (record { 0 = slack }) (in_slots t)
 answered (failed t) = Failed (in_slots t)
-answered (unreadable number place) = Unreadable number place
+answered (unreadable number place) = Unreadable (record { cause = cause_of number; place = place })
 
-told-answered : (v : Case) → told (answered v) ≡ v
-told-answered (passed slack t) = refl
-told-answered (failed t) = refl
-told-answered (unreadable number place) = refl
+told-answered : (bytes : List ℕ) (v : Case) → Says bytes v → told (answered v) ≡ v
+told-answered bytes (passed slack t) h = refl
+told-answered bytes (failed t) h = refl
+told-answered bytes (unreadable number place) h = ap (λ n. unreadable n place) (reading-known bytes number place h)
 
 unfoldable pub verdict_in : List ℕ → Verdict
 verdict_in bytes = answered (case_in (reading bytes) bytes)
@@ -122,7 +124,7 @@ module _ (bytes : List ℕ) (all : AllBytes bytes) where
   unfolding verdict_in figures_in
   judged =
       record {
-        says = subst (Says bytes) (sym (told-answered (case_in (reading bytes) bytes))) (case-says bytes all);
+        says = subst (Says bytes) (sym (told-answered bytes (case_in (reading bytes) bytes) (case-says bytes all))) (case-says bytes all);
         figures_are =
             record {
               sixteen = length-map (numbers_in bytes) in_slots ∙ count;

@@ -1,13 +1,15 @@
 -- What the parts of the test of refusal 14 look at, number by number, and that together they are a sound block, both ways. Assumes nothing.
-use Rattle.std.specs.Prelude.{◌≡◌, List, ℕ, zero, suc, ◌+◌, ◌-◌, ◌≤◌, ◌<◌, length, get_or}
+use Rattle.std.specs.Prelude.{◌≡◌, Bool, List, ℕ, zero, suc, ◌+◌, ◌-◌, ◌≤◌, ◌<◌, length, get_or}
 use Rattle.std.proofs.Math.Path.{refl}
-use Rattle.std.proofs.Common.{ap, arith}
+use Rattle.std.proofs.Common.{ap, arith, zero-add}
+use Rattle.std.proofs.Math.Seq.{take-length}
 use Rattle.curve.specs.Curve.{Curve, entry}
 use Rattle.curve.specs.Rises.{IsCurve}
-use Rattle.sheet.specs.Limits.{longest_period, longest_table, largest_value}
-use Rattle.layout.specs.Layout.{block_numbers, service_length_at, envelope_length_at, service_rate_at, envelope_rate_at, service_at, envelope_at, service_ahead_at, envelope_ahead_at, part}
+use Rattle.sheet.specs.Limits.{longest_period, longest_table, largest_value, largest_rate, largest_room}
+use Rattle.layout.specs.Layout.{block_numbers, service_length_at, envelope_length_at, room_at, service_rate_at, envelope_rate_at, service_at, envelope_at, service_ahead_at, envelope_ahead_at, part}
 use Rattle.layout.specs.Sound.{most_ahead, Below, Numbers, Sound}
 use Rattle.layout.specs.Part.{part_length, part_at}
+use Rattle.guard.specs.Tells.{Tells, tells_map}
 
 -- the n numbers from a on are at most v
 abbrev pub Small : List ℕ → ℕ → ℕ → ℕ → Type 0
@@ -18,6 +20,25 @@ pub record Climbs (b : List ℕ) (a n P rate v : ℕ) : Type 0 where
   pub steps : (i : ℕ) → i + 1 < n → get_or b (a + i) 0 ≤ get_or b (a + (i + 1)) 0
   pub join : get_or b (a + (n - 1)) 0 ≤ get_or b (a + (n - P)) 0 + rate
   pub last : get_or b (a + (n - 1)) 0 ≤ v
+
+-- the first n of a table's values never fall
+abbrev pub Steps : List ℕ → ℕ → Type 0
+Steps table n = (i : ℕ) → i + 1 < n → get_or table i 0 ≤ get_or table (i + 1) 0
+
+-- a table with a rate is a curve, and none of its values is above v
+abbrev pub Climbing : List ℕ → ℕ → ℕ → ℕ → Type 0
+Climbing table P rate v = IsCurve P (record { table = table; rate = rate }) × Below v (record { table = table; rate = rate })
+
+-- the plain numbers that a run keeps from its opening on
+pub record Fixed (b : List ℕ) (P : ℕ) : Type 0 where
+  pub service-long : P ≤ get_or b service_length_at 0
+  pub service-short : get_or b service_length_at 0 ≤ longest_table
+  pub envelope-long : P ≤ get_or b envelope_length_at 0
+  pub envelope-short : get_or b envelope_length_at 0 ≤ longest_table
+  pub room : get_or b room_at 0 ≤ largest_room
+  pub promises : 1 ≤ get_or b service_rate_at 0
+  pub service-rate : get_or b service_rate_at 0 ≤ largest_rate
+  pub envelope-rate : get_or b envelope_rate_at 0 ≤ largest_rate
 
 pub record Passes (b : List ℕ) (P done : ℕ) : Type 0 where
   pub numbers : Numbers b P done
@@ -94,6 +115,33 @@ module _ (b : List ℕ) (a n : ℕ) (fits : a + n ≤ length b) where
           join = omega (arith, ap (entry (part a n b)) last, entry_at (n - 1) (omega arith), entry_at (n - P) (omega arith), rw back at (rw len at g.join));
           last = below-small rate v s (n - 1) (omega arith);
         }
+
+-- a table that is looked at by itself
+module _ (table : List ℕ) (P rate v : ℕ) (p : 1 ≤ P) (long : P ≤ length table) where
+  whole : part 0 (length table) table ≡ table
+  whole = take-length table
+
+  -- its last value is at most v, the step at its join is at most the rate, and it never falls
+  abbrev Climbed : Type 0
+  Climbed = ((get_or table (length table - 1) 0 ≤ v) × (get_or table (length table - 1) 0 - get_or table (length table - P) 0 ≤ rate)) × Steps table (length table)
+
+  fits : 0 + length table ≤ length table
+  fits = omega arith
+
+  climbed-climbing : Climbed → Climbing table P rate v
+  climbed-climbing s =
+      let c : Climbs table 0 (length table) P rate v = record { steps = λ i h. simp zero-add (s.1 i h); join = simp zero-add (omega (arith, s.0.1)); last = simp zero-add s.0.0 } in (
+        rw whole at (climbs_curve table 0 (length table) fits P rate v p long c),
+        rw whole at (small-below table 0 (length table) fits rate v (climbs_small table 0 (length table) fits P rate v p long c)),
+      )
+
+  climbing-climbed : Climbing table P rate v → Climbed
+  climbing-climbed t =
+      let c : Climbs table 0 (length table) P rate v = curve_climbs table 0 (length table) fits P rate v p long (rw whole t.0) (rw whole t.1) in
+      ((simp zero-add at c.last, omega (arith, simp zero-add at c.join)), λ i h. simp zero-add at (c.steps i h))
+
+  pub tells_climbing : (r : Bool) → Tells r Climbed → Tells r (Climbing table P rate v)
+  tells_climbing r t = tells_map r climbed-climbing climbing-climbed t
 
 -- the parts are the whole
 module _ (b : List ℕ) (P done : ℕ) (size : length b ≡ block_numbers) (p : 1 ≤ P) (few : P ≤ longest_period) where

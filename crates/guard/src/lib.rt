@@ -1,18 +1,18 @@
 // The test of refusal 14: is there an opened run in the slice? It reads any numbers at all, and no sum of it can wrap on them.
 #![tactic(auto)]
 
-ghost use Rattle.std.specs.Prelude.{◌≡◌, ℕ, ◌+◌, ◌≤◌, ◌<◌, length};
+ghost use Rattle.std.specs.Prelude.{◌≡◌, ℕ, ◌+◌, ◌≤◌, ◌<◌, length, slice_index, EachIndex};
 ghost use Rattle.sheet.specs.Limits.{longest_period, most_sessions};
 ghost use Rattle.layout.specs.Layout.{run_numbers, block_numbers, block};
 ghost use Rattle.layout.specs.Sound.{most_slots, Numbers, Sound};
 ghost use Rattle.guard.specs.Tells.{Tells};
 ghost use Rattle.guard.specs.Opened.{Opened};
-ghost use Rattle.guard.specs.Test.{Small, Climbs};
+ghost use Rattle.guard.specs.Test.{Steps, Climbing, Fixed};
 
 use layout::{
-    BLOCK_NUMBERS, CAPACITY_AT, COUNT_AT, DONE_AT, ENVELOPE_AHEAD_AT, ENVELOPE_AT,
-    ENVELOPE_LENGTH_AT, ENVELOPE_RATE_AT, HEAD_NUMBERS, MARK, MARK_AT, MOST_SLOTS, PERIOD_AT,
-    ROOM_AT, SENT_AT, SERVICE_AHEAD_AT, SERVICE_AT, SERVICE_LENGTH_AT, SERVICE_RATE_AT, TAKEN_AT,
+    CAPACITY_AT, COUNT_AT, DONE_AT, ENVELOPE_AHEAD_AT, ENVELOPE_AT, ENVELOPE_LENGTH_AT,
+    ENVELOPE_RATE_AT, MARK, MARK_AT, MOST_SLOTS, PERIOD_AT, ROOM_AT, SENT_AT, SERVICE_AHEAD_AT,
+    SERVICE_AT, SERVICE_LENGTH_AT, SERVICE_RATE_AT, TAKEN_AT,
 };
 use sheet::limits::{
     LARGEST_RATE, LARGEST_ROOM, LARGEST_VALUE, LONGEST_PERIOD, LONGEST_TABLE, MOST_CAPACITY,
@@ -22,143 +22,104 @@ use sheet::limits::{
 // Nothing that lies ahead passes this.
 const MOST_AHEAD: u32 = 64001000;
 
-// Of the n numbers from `at` on, none is above `most`.
-fn small(blk: &[u32], at: usize, n: usize, most: u32) -> bool
-    requires { at + n ≤ length blk.now }
-    ensures { Tells result (Small blk.now at n most) }
+// None of the numbers is above `most`.
+fn small(numbers: &[u32], most: u32) -> bool
+    ensures { Tells result (EachIndex numbers.now (λ i. slice_index numbers.now i ≤ most)) }
 {
     // no way out of the loop: so several numbers are looked at in one step
     let mut all = true;
-    let mut i: usize = 0;
-    while i < n {
-        if most < blk[at + i] {
-            all = false;
-        }
-        i += 1;
+    for number in numbers {
+        all &= *number <= most;
     }
     all
 }
 
-// The n numbers from `at` on never fall, nor at their join, and the last is not above `most`.
-fn climbs(blk: &[u32], at: usize, n: usize, p: usize, rate: u32, most: u32) -> bool
-    requires { (at + n ≤ length blk.now) × (1 ≤ p) × (p ≤ n) }
-    ensures { Tells result (Climbs blk.now at n p rate most) }
+// The numbers never fall.
+fn rises(numbers: &[u32]) -> bool
+    ensures { Tells result (Steps numbers.now (length numbers.now)) }
 {
-    let last = blk[at + (n - 1)];
-    if most < last {
-        return false;
-    }
     // no way out of this loop either
-    let mut falls = false;
-    let mut i: usize = 1;
-    while i < n {
-        if blk[at + i] < blk[at + (i - 1)] {
-            falls = true;
-        }
-        i += 1;
+    let mut all = true;
+    for pair in numbers.windows(2) {
+        all &= pair[0] <= pair[1];
     }
-    if falls {
-        return false;
-    }
+    all
+}
+
+// The numbers are a table that never falls, nor at its join with this rate, and none is above `most`.
+fn climbs(numbers: &[u32], period: usize, rate: u32, most: u32) -> bool
+    requires { (1 ≤ period) × (period ≤ length numbers.now) }
+    ensures { Tells result (Climbing numbers.now period rate most) }
+{
+    let length = numbers.len();
+    let last = numbers[length - 1];
     // a difference: the sum at the join could wrap
-    let low = blk[at + (n - p)];
-    if low < last {
-        if rate < last - low {
-            return false;
-        }
-    }
-    true
+    let step = last.saturating_sub(numbers[length - period]);
+    let bounded = last <= most && step <= rate;
+    bounded && rises(numbers)
+}
+
+// The lengths of a block's tables, its room and its rates.
+fn fixed(block: &[u32], period: u32) -> bool
+    requires { length block.now ≡ block_numbers }
+    ensures { Tells result (Fixed block.now period) }
+{
+    let lengths = period..=LONGEST_TABLE;
+    lengths.contains(&block[SERVICE_LENGTH_AT])
+        && lengths.contains(&block[ENVELOPE_LENGTH_AT])
+        && block[ROOM_AT] <= LARGEST_ROOM
+        && (1..=LARGEST_RATE).contains(&block[SERVICE_RATE_AT])
+        && block[ENVELOPE_RATE_AT] <= LARGEST_RATE
 }
 
 // A block's plain numbers.
-fn numbers(blk: &[u32], p: u32, done: u32) -> bool
-    requires { (length blk.now ≡ block_numbers) × (done ≤ most_slots) }
-    ensures { Tells result (Numbers blk.now p done) }
+fn numbers(block: &[u32], period: u32, done: u32) -> bool
+    requires { (length block.now ≡ block_numbers) × (done ≤ most_slots) }
+    ensures { Tells result (Numbers block.now period done) }
 {
-    if blk[SERVICE_LENGTH_AT] < p {
-        return false;
-    }
-    if LONGEST_TABLE < blk[SERVICE_LENGTH_AT] {
-        return false;
-    }
-    if blk[ENVELOPE_LENGTH_AT] < p {
-        return false;
-    }
-    if LONGEST_TABLE < blk[ENVELOPE_LENGTH_AT] {
-        return false;
-    }
-    if LARGEST_ROOM < blk[ROOM_AT] {
-        return false;
-    }
-    if blk[SERVICE_RATE_AT] < 1 {
-        return false;
-    }
-    if LARGEST_RATE < blk[SERVICE_RATE_AT] {
-        return false;
-    }
-    if LARGEST_RATE < blk[ENVELOPE_RATE_AT] {
-        return false;
-    }
-    if blk[TAKEN_AT] < blk[SENT_AT] {
-        return false;
-    }
-    if MOST_CAPACITY * done < blk[SENT_AT] {
-        return false;
-    }
-    if blk[ROOM_AT] < blk[TAKEN_AT] - blk[SENT_AT] {
-        return false;
-    }
-    if blk[ENVELOPE_AHEAD_AT] < blk[TAKEN_AT] {
-        return false;
-    }
-    true
+    let taken = block[TAKEN_AT];
+    let sent = block[SENT_AT];
+    // a difference: the sum of those sent and the room could wrap
+    fixed(block, period)
+        && sent <= taken
+        && sent <= MOST_CAPACITY * done
+        && taken.saturating_sub(sent) <= block[ROOM_AT]
+        && taken <= block[ENVELOPE_AHEAD_AT]
 }
 
 // One block: its numbers and its four tables.
-fn sound(blk: &[u32], p: usize, done: u32) -> bool
-    requires { (length blk.now ≡ block_numbers) × (1 ≤ p) × (p ≤ longest_period) × (done ≤ most_slots) }
-    ensures { Tells result (Sound blk.now p done) }
+fn sound(block: &[u32], period: usize, done: u32) -> bool
+    requires { (length block.now ≡ block_numbers) × (1 ≤ period) × (period ≤ longest_period) × (done ≤ most_slots) }
+    ensures { Tells result (Sound block.now period done) }
 {
-    if numbers(blk, p as u32, done) {
-        let service = blk[SERVICE_LENGTH_AT] as usize;
-        let envelope = blk[ENVELOPE_LENGTH_AT] as usize;
-        if small(blk, SERVICE_AT, service, LARGEST_VALUE) {
-            if small(blk, ENVELOPE_AT, envelope, LARGEST_VALUE) {
-                if climbs(
-                    blk,
-                    SERVICE_AHEAD_AT,
-                    service,
-                    p,
-                    blk[SERVICE_RATE_AT],
-                    MOST_AHEAD,
-                ) {
-                    return climbs(
-                        blk,
-                        ENVELOPE_AHEAD_AT,
-                        envelope,
-                        p,
-                        blk[ENVELOPE_RATE_AT],
-                        MOST_AHEAD,
-                    );
-                }
-            }
-        }
+    if !numbers(block, period as u32, done) {
+        return false;
     }
-    false
+    let service = block[SERVICE_LENGTH_AT] as usize;
+    let envelope = block[ENVELOPE_LENGTH_AT] as usize;
+    small(&block[SERVICE_AT..SERVICE_AT + service], LARGEST_VALUE)
+        && small(&block[ENVELOPE_AT..ENVELOPE_AT + envelope], LARGEST_VALUE)
+        && climbs(
+            &block[SERVICE_AHEAD_AT..SERVICE_AHEAD_AT + service],
+            period,
+            block[SERVICE_RATE_AT],
+            MOST_AHEAD,
+        )
+        && climbs(
+            &block[ENVELOPE_AHEAD_AT..ENVELOPE_AHEAD_AT + envelope],
+            period,
+            block[ENVELOPE_RATE_AT],
+            MOST_AHEAD,
+        )
 }
 
 // The blocks of the first `count` sessions.
-fn sound_blocks(run: &[u32], count: usize, p: usize, done: u32) -> bool
-    requires { (count ≤ most_sessions) × (run_numbers ≤ length run.now) × (1 ≤ p) × (p ≤ longest_period) × (done ≤ most_slots) }
-    ensures { Tells result ((i : ℕ) → i < count → Sound (block run.now i) p done) }
+fn sound_blocks(run: &[u32], count: usize, period: usize, done: u32) -> bool
+    requires { (count ≤ most_sessions) × (run_numbers ≤ length run.now) × (1 ≤ period) × (period ≤ longest_period) × (done ≤ most_slots) }
+    ensures { Tells result ((i : ℕ) → i < count → Sound (block run.now i) period done) }
 {
-    let mut i: usize = 0;
-    while i < count {
-        let from = HEAD_NUMBERS + i * BLOCK_NUMBERS;
-        let to = from + BLOCK_NUMBERS;
-        if sound(&run[from..to], p, done) {
-            i += 1;
-        } else {
+    for session in 0..count {
+        if !sound(layout::block(run, session), period, done) {
             return false;
         }
     }
@@ -170,34 +131,15 @@ pub fn opened(run: &[u32]) -> bool
     requires { run_numbers ≤ length run.now }
     ensures { Tells result (Opened run.now) }
 {
-    if run[MARK_AT] != MARK {
-        return false;
-    }
-    if run[CAPACITY_AT] < 1 {
-        return false;
-    }
-    if MOST_CAPACITY < run[CAPACITY_AT] {
-        return false;
-    }
-    if run[PERIOD_AT] < 1 {
-        return false;
-    }
-    if LONGEST_PERIOD < run[PERIOD_AT] {
-        return false;
-    }
-    if run[COUNT_AT] < 1 {
-        return false;
-    }
-    if MOST_SESSIONS < run[COUNT_AT] {
-        return false;
-    }
-    if MOST_SLOTS < run[DONE_AT] {
-        return false;
-    }
-    sound_blocks(
-        run,
-        run[COUNT_AT] as usize,
-        run[PERIOD_AT] as usize,
-        run[DONE_AT],
-    )
+    run[MARK_AT] == MARK
+        && (1..=MOST_CAPACITY).contains(&run[CAPACITY_AT])
+        && (1..=LONGEST_PERIOD).contains(&run[PERIOD_AT])
+        && (1..=MOST_SESSIONS).contains(&run[COUNT_AT])
+        && run[DONE_AT] <= MOST_SLOTS
+        && sound_blocks(
+            run,
+            run[COUNT_AT] as usize,
+            run[PERIOD_AT] as usize,
+            run[DONE_AT],
+        )
 }

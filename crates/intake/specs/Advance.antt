@@ -1,16 +1,14 @@
 -- What lies ahead of a curve, one slot further: ahead(x) becomes the lesser of ahead(x+1) and A + F(x), A the packets taken in. Assumes nothing.
 use Rattle.std.specs.Prelude.{◌≡◌, refl, List, [], ◌∷◌, ℕ, zero, suc, ◌+◌, ◌-◌, ◌≤◌, ◌<◌, min, get_or, set}
 use Rattle.std.proofs.Math.Path.{sym, ap}
-use Rattle.std.proofs.Common.{ap₂, ◌∙◌, arith}
+use Rattle.std.proofs.Common.{ext_get_or, ◌∙◌, arith}
 use Rattle.std.proofs.Math.ListN.{length}
 use Rattle.curve.specs.Curve.{Curve, at}
 use Rattle.curve.proofs.CurveLaws.{at_table, at_tail}
 use Rattle.sheet.specs.Limits.{largest_value, largest_rate}
-use Rattle.layout.specs.Layout.{part}
-use Rattle.layout.specs.Part.{part_length, part_at}
-use Rattle.intake.specs.Due.{curve_with}
+use Rattle.curve.specs.Lookup.{curve_with}
 use Rattle.layout.specs.Sound.{most_ahead}
-use Rattle.layout.specs.Over.{puts, puts_none, puts-more, puts_out, over}
+use Rattle.layout.specs.Over.{puts, puts_none, puts-more, puts_out, puts_in, length-puts}
 
 -- the values from x on, for the curve's own values from x - 1 on
 unfoldable pub advanced_from : ℕ → Curve → ℕ → ℕ → List ℕ → List ℕ
@@ -46,69 +44,53 @@ pub advanced-at : (P : ℕ) (ahead : Curve) (total : ℕ) (own : List ℕ) (j : 
 unfolding advanced
 advanced-at P ahead total own j h = from_at P ahead total 2 own j h
 
--- what a step over the list of a block asks: the table of n numbers at a, and the curve's own table at cur, before it
-pub record Advances (l : List ℕ) (cur a n P rate total : ℕ) : Type 0 where
+-- what a step asks of the curve's own table and of what lies ahead of it
+pub record Advances (own ahead : List ℕ) (P rate total : ℕ) : Type 0 where
   pub period : 1 ≤ P
-  pub long : P ≤ n
-  pub fits : a + n ≤ length l
-  pub apart : cur + n ≤ a
+  pub long : P ≤ length ahead
+  pub alike : length own ≡ length ahead
   pub rate-small : rate ≤ largest_rate
   pub total-small : total ≤ most_ahead
-  pub own-small : (j : ℕ) → j < n → get_or l (cur + j) 0 ≤ largest_value
-  pub ahead_small : (j : ℕ) → j < n → get_or l (a + j) 0 ≤ most_ahead
+  pub own-small : (j : ℕ) → j < length own → get_or own j 0 ≤ largest_value
+  pub ahead_small : (j : ℕ) → j < length ahead → get_or ahead j 0 ≤ most_ahead
 
--- the new table of the list l, and the list after j of its numbers are written
-module _ (l : List ℕ) (cur a n P rate total : ℕ) where
-  abbrev pub advanced_at : List ℕ
-  advanced_at = advanced P (curve_with (part a n l) rate) total (part cur n l)
-
+module _ (own ahead : List ℕ) (P rate total : ℕ) where
+  -- what lies ahead, after the first j of its new numbers are written
   abbrev pub advancing : ℕ → List ℕ
-  advancing j = puts l (λ i. a + i) (λ i. get_or advanced_at i 0) j
+  advancing j = puts ahead (λ i. i) (λ i. get_or (advanced P (curve_with ahead rate) total own) i 0) j
 
-  pub advancing-none : l ≡ advancing 0
-  advancing-none = sym (puts_none l (λ i. a + i) (λ i. get_or advanced_at i 0))
+  pub advancing-none : ahead ≡ advancing 0
+  advancing-none = sym (puts_none ahead (λ i. i) (λ i. get_or (advanced P (curve_with ahead rate) total own) i 0))
 
-  module _ (ok : Advances l cur a n P rate total) where
-    pub advancing-all : (j : ℕ) → j ≡ n → advancing j ≡ over l a advanced_at
-    unfolding over
-    advancing-all j e =
-        let b = ok.apart in
-        let f : length advanced_at ≡ n = length-advanced P (curve_with (part a n l) rate) total (part cur n l) ∙ part_length l cur n (omega (arith, ok.fits)) in
-        ap advancing (e ∙ sym f)
+  module _ (ok : Advances own ahead P rate total) where
+    pub advancing-all : advancing (length ahead) ≡ advanced P (curve_with ahead rate) total own
+    advancing-all =
+        let new = advanced P (curve_with ahead rate) total own in
+        let n : length (advancing (length ahead)) ≡ length ahead = length-puts ahead (λ i. i) (λ i. get_or new i 0) (length ahead) in
+        ext_get_or 0 (advancing (length ahead)) new (n ∙ sym ok.alike ∙ sym (length-advanced P (curve_with ahead rate) total own))
+        (λ i b. puts_in ahead (λ i. i) (λ i. get_or new i 0) (length ahead) (λ k h. h) (λ k m h g e. omega arith) i (omega (arith, n)))
 
-    module _ (j : ℕ) (h : j < n) where
+    module _ (j : ℕ) (h : j < length ahead) where
       -- what a turn of the loop reads, after j numbers are written, is what stood there at first
-      pub own_same : get_or (advancing j) (cur + j) 0 ≡ get_or l (cur + j) 0
-      own_same =
-          let b = ok.apart in
-          puts_out l (λ i. a + i) (λ i. get_or advanced_at i 0) j (cur + j) (λ i s e. omega arith)
-
-      pub next_in : j + 1 < n → get_or (advancing j) (a + (j + 1)) 0 ≡ at P (curve_with (part a n l) rate) (j + 2)
+      pub next_in : j + 1 < length ahead → get_or (advancing j) (j + 1) 0 ≡ at P (curve_with ahead rate) (j + 2)
       next_in b =
-          let k : length (part a n l) ≡ n = part_length l a n ok.fits in
           let e : suc (j + 1) ≡ j + 2 = omega arith in
-          puts_out l (λ i. a + i) (λ i. get_or advanced_at i 0) j (a + (j + 1)) (λ i s e. omega arith)
-          ∙ sym (part_at l a n (j + 1) b)
-          ∙ sym (at_table P (curve_with (part a n l) rate) (j + 1) (omega arith))
-          ∙ ap (at P (curve_with (part a n l) rate)) e
+          puts_out ahead (λ i. i) (λ i. get_or (advanced P (curve_with ahead rate) total own) i 0) j (j + 1) (λ i s e. omega arith)
+          ∙ sym (at_table P (curve_with ahead rate) (j + 1) b)
+          ∙ ap (at P (curve_with ahead rate)) e
 
-      pub next-join : n ≤ j + 1 → get_or l (a + (n - P)) 0 + rate ≡ at P (curve_with (part a n l) rate) (j + 2)
+      pub next-join : length ahead ≤ j + 1 → get_or ahead (length ahead - P) 0 + rate ≡ at P (curve_with ahead rate) (j + 2)
       next-join b =
           let p : 1 ≤ P = ok.period in
-          let q : P ≤ n = ok.long in
-          let k : length (part a n l) ≡ n = part_length l a n ok.fits in
-          let e : suc (n - P) + P ≡ j + 2 = omega arith in
-          ap (λ v. v + rate) (sym (part_at l a n (n - P) (omega arith)) ∙ sym (at_table P (curve_with (part a n l) rate) (n - P) (omega arith)))
-          ∙ sym (at_tail P (curve_with (part a n l) rate) p (suc (n - P)) (omega arith))
-          ∙ ap (at P (curve_with (part a n l) rate)) e
+          let q : P ≤ length ahead = ok.long in
+          let e : suc (length ahead - P) + P ≡ j + 2 = omega arith in
+          ap (λ v. v + rate) (sym (at_table P (curve_with ahead rate) (length ahead - P) (omega arith)))
+          ∙ sym (at_tail P (curve_with ahead rate) p (suc (length ahead - P)) (omega arith))
+          ∙ ap (at P (curve_with ahead rate)) e
 
       -- the number that it writes
-      pub advancing-more : (next own : ℕ) → next ≡ at P (curve_with (part a n l) rate) (j + 2) → own ≡ get_or (advancing j) (cur + j) 0
-          → set (advancing j) (a + j) (min next (total + own)) ≡ advancing (j + 1)
-      advancing-more next own e f =
-          let b = ok.apart in
-          let k : length (part cur n l) ≡ n = part_length l cur n (omega (arith, ok.fits)) in
-          let new : min next (total + own) ≡ get_or advanced_at j 0 =
-          ap₂ (λ x y. min x (total + y)) e (f ∙ own_same ∙ sym (part_at l cur n j h))
-          ∙ sym (advanced-at P (curve_with (part a n l) rate) total (part cur n l) j (omega arith)) in
-          ap (λ v. set (advancing j) (a + j) v) new ∙ puts-more l (λ i. a + i) (λ i. get_or advanced_at i 0) j
+      pub advancing-more : (next : ℕ) → next ≡ at P (curve_with ahead rate) (j + 2) → set (advancing j) j (min next (total + get_or own j 0)) ≡ advancing (j + 1)
+      advancing-more next e =
+          let new : min next (total + get_or own j 0) ≡ get_or (advanced P (curve_with ahead rate) total own) j 0 =
+          ap (λ x. min x (total + get_or own j 0)) e ∙ sym (advanced-at P (curve_with ahead rate) total own j (omega (arith, ok.alike))) in
+          ap (set (advancing j) j) new ∙ puts-more ahead (λ i. i) (λ i. get_or (advanced P (curve_with ahead rate) total own) i 0) j

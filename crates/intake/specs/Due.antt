@@ -1,7 +1,8 @@
 -- What the look-up in a table of numbers asks: the table and the rate are a curve, and its sums stay within 32 bits; and where the next look-up may begin. Assumes nothing.
-use Rattle.std.specs.Prelude.{◌≡◌, List, ◌⊎◌, ℕ, suc, ◌+◌, ◌-◌, ◌*◌, ◌≤◌, ◌<◌, length}
+use Rattle.std.specs.Prelude.{◌≡◌, ◌⊎◌, ℕ, suc, ◌+◌, ◌-◌, ◌*◌, ◌≤◌, ◌<◌, length}
 use Rattle.std.proofs.Common.{inl, inr, le→leb}
 use native.Mathlib.Omega.{arith}
+use native.Mathlib.Nat.{mul-le-mul}
 use Rattle.std.proofs.Math.Dec.{leb→le}
 use Rattle.std.proofs.Math.ListN.{get_or}
 use Rattle.curve.proofs.OrderLaws.{le_or_lt}
@@ -9,13 +10,10 @@ use Rattle.curve.specs.Curve.{Curve, at}
 use Rattle.curve.proofs.CurveLaws.{at_table}
 use Rattle.curve.specs.Delay.{slot, come, delay}
 use Rattle.curve.proofs.DelayLaws.{delay-from, delay-law}
+use Rattle.curve.specs.Lookup.{Begins}
 use Rattle.curve.specs.Rises.{IsCurve}
 use Rattle.sheet.specs.Limits.{longest_period, longest_table, largest_rate}
 use Rattle.layout.specs.Sound.{most_ahead, Below}
-
--- the curve of a table of numbers
-abbrev pub curve_with : List ℕ → ℕ → Curve
-curve_with table rate = record { table = table; rate = rate }
 
 -- want is a number of packets: no more are ever asked for than can lie ahead
 pub record Seeks (P : ℕ) (F : Curve) (want : ℕ) : Type 0 where
@@ -27,13 +25,13 @@ pub record Seeks (P : ℕ) (F : Curve) (want : ℕ) : Type 0 where
   pub small : Below most_ahead F
   pub wanted : want ≤ most_ahead
 
--- where it may begin: the table's first `start` numbers are below what is wanted
-abbrev pub Begins : List ℕ → ℕ → ℕ → Type 0
-Begins table want start = (start ≤ length table) × ((j : ℕ) → j < start → get_or table j 0 < want)
-
--- and no look-up tells a number of slots above this: a table, and a period for each packet
+-- no look-up tells a number of slots above this: a table, and a period for each packet
 abbrev pub most_delay : ℕ
 most_delay = longest_table + most_ahead * longest_period
+
+module _ (P : ℕ) (F : Curve) (want : ℕ) (s : Seeks P F want) where
+  pub delay-most : (m : ℕ) → m ≤ length F.table + want * P → m ≤ most_delay
+  delay-most m h = omega (arith, h, s.short, mul-le-mul s.wanted s.few)
 
 module _ (P : ℕ) (F : Curve) (good : IsCurve P F) (want m : ℕ) (told : delay P F want ≡ slot m) where
   -- what a look-up tells is a slot count from 1 on

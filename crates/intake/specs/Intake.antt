@@ -11,9 +11,9 @@ use Rattle.curve.specs.Curve.{Curve}
 use Rattle.sheet.specs.Limits.{largest_value, largest_rate}
 use Rattle.layout.specs.Sound.{Sound, Below, most_slots, most_ahead}
 use Rattle.layout.specs.Part.{part_length, part_at, part_same}
-use Rattle.intake.specs.Due.{curve_with}
+use Rattle.curve.specs.Lookup.{curve_with}
 use Rattle.layout.specs.Over.{over, length_over, over_out}
-use Rattle.intake.specs.Advance.{advanced, length-advanced, Advances, advanced_at}
+use Rattle.intake.specs.Advance.{advanced, length-advanced, Advances}
 use Rattle.intake.specs.Share.{share_of, free_of}
 use Rattle.intake.specs.Append.{appended, length-appended, appended_out}
 
@@ -50,31 +50,33 @@ step_length : (b : List ℕ) (cur n P : ℕ) (F : Curve) (A : ℕ) → cur + n �
 step_length b cur n P F A h = length-advanced P F A (part cur n b) ∙ part_length b cur n h
 
 -- a step of either curve over such a list: the tables that it reads are those of b, and what it asks
-module _ (b z₀ : List ℕ) (cur a n P rate A : ℕ) (keeps : Keeps b z₀ cur a n) where
-  step_by : (z y : List ℕ) → z ≡ z₀ → y ≡ over z a (advanced_at z cur a n P rate A) → y ≡ over z₀ a (advanced P (curve_with (part a n b) rate) A (part cur n b))
-  step_by z y e f =
+module _ (b z : List ℕ) (cur a n P rate A : ℕ) (keeps : Keeps b z cur a n) where
+  step_by : (x y : List ℕ) → x ≡ z → y ≡ advanced P (curve_with (part a n x) rate) A (part cur n x) → over x a y ≡ over z a (advanced P (curve_with (part a n b) rate) A (part cur n b))
+  step_by x y e f =
       let l = keeps.apart in
       let m = keeps.fits in
-      f
-      ∙ ap (λ (x : List ℕ). over x a (advanced_at x cur a n P rate A)) e
-      ∙ ap₂ (λ (u v : List ℕ). over z₀ a (advanced P (curve_with u rate) A v)) (part_same b z₀ a n keeps.size m keeps.ahead) (part_same b z₀ cur n keeps.size (omega arith) keeps.own)
+      ap₂ (λ (u v : List ℕ). over u a v) e
+      (f
+      ∙ ap (λ (u : List ℕ). advanced P (curve_with (part a n u) rate) A (part cur n u)) e
+      ∙ ap₂ (λ (u v : List ℕ). advanced P (curve_with u rate) A v) (part_same b z a n keeps.size m keeps.ahead) (part_same b z cur n keeps.size (omega arith) keeps.own))
 
   step_asks : 1 ≤ P → P ≤ n → rate ≤ largest_rate → A ≤ most_ahead → Below largest_value (curve_with (part cur n b) rate) → Below most_ahead (curve_with (part a n b) rate)
-      → Advances z₀ cur a n P rate A
+      → Advances (part cur n z) (part a n z) P rate A
   step_asks p long small most own ahead =
       let l = keeps.apart in
       let m = keeps.fits in
       let lc = part_length b cur n (omega arith) in
       let la = part_length b a n m in
+      let zc = part_length z cur n (omega (arith, keeps.size)) in
+      let za = part_length z a n (omega (arith, keeps.size)) in
       record {
         period = p;
-        long = long;
-        fits = omega (arith, keeps.size);
-        apart = l;
+        long = omega arith;
+        alike = omega arith;
         rate-small = small;
         total-small = most;
-        own-small = λ j h. omega (arith, keeps.own j h, part_at b cur n j h, own j (omega arith));
-        ahead_small = λ j h. omega (arith, keeps.ahead j h, part_at b a n j h, ahead j (omega arith));
+        own-small = λ j h. let i : j < n = omega arith in omega (arith, part_at z cur n j i, keeps.own j i, part_at b cur n j i, own j (omega arith));
+        ahead_small = λ j h. let i : j < n = omega arith in omega (arith, part_at z a n j i, keeps.ahead j i, part_at b a n j i, ahead j (omega arith));
       }
 
 module _ (b : List ℕ) (P done k : ℕ) where
@@ -141,14 +143,14 @@ module _ (b : List ℕ) (P done k : ℕ) where
 
     -- the second step of the code, and the third
     pub served-by : (z y : List ℕ) → z ≡ counted b P done k
-        → y ≡ over z service_ahead_at (advanced_at z service_at service_ahead_at (get_or b service_length_at 0) P (get_or b service_rate_at 0) (get_or b taken_at 0 + k))
-        → y ≡ served b P done k
+        → y ≡ advanced P (curve_with (part service_ahead_at (get_or b service_length_at 0) z) (get_or b service_rate_at 0)) (get_or b taken_at 0 + k) (part service_at (get_or b service_length_at 0) z)
+        → over z service_ahead_at y ≡ served b P done k
     unfolding served
     served-by = step_by b (counted b P done k) service_at service_ahead_at (get_or b service_length_at 0) P (get_or b service_rate_at 0) (get_or b taken_at 0 + k) service-keeps
 
     pub took_in-by : (z y : List ℕ) → z ≡ served b P done k
-        → y ≡ over z envelope_ahead_at (advanced_at z envelope_at envelope_ahead_at (get_or b envelope_length_at 0) P (get_or b envelope_rate_at 0) (get_or b taken_at 0 + k))
-        → y ≡ took_in b P done k
+        → y ≡ advanced P (curve_with (part envelope_ahead_at (get_or b envelope_length_at 0) z) (get_or b envelope_rate_at 0)) (get_or b taken_at 0 + k) (part envelope_at (get_or b envelope_length_at 0) z)
+        → over z envelope_ahead_at y ≡ took_in b P done k
     unfolding took_in
     took_in-by = step_by b (served b P done k) envelope_at envelope_ahead_at (get_or b envelope_length_at 0) P (get_or b envelope_rate_at 0) (get_or b taken_at 0 + k) envelope-keeps
 
@@ -157,12 +159,12 @@ module _ (b : List ℕ) (P done k : ℕ) where
       total-most = omega (arith, ok.numbers.room, ok.numbers.in_order, ok.numbers.sent-few, ok.numbers.waiting)
 
       -- what the two steps ask
-      pub service_advances : Advances (counted b P done k) service_at service_ahead_at (get_or b service_length_at 0) P (get_or b service_rate_at 0) (get_or b taken_at 0 + k)
+      pub service_advances : Advances (part service_at (get_or b service_length_at 0) (counted b P done k)) (part service_ahead_at (get_or b service_length_at 0) (counted b P done k)) P (get_or b service_rate_at 0) (get_or b taken_at 0 + k)
       service_advances =
           step_asks b (counted b P done k) service_at service_ahead_at (get_or b service_length_at 0) P (get_or b service_rate_at 0) (get_or b taken_at 0 + k) service-keeps
           ok.period ok.numbers.service-long ok.numbers.service-rate total-most ok.service-small ok.service-ahead-small
 
-      pub envelope_advances : Advances (served b P done k) envelope_at envelope_ahead_at (get_or b envelope_length_at 0) P (get_or b envelope_rate_at 0) (get_or b taken_at 0 + k)
+      pub envelope_advances : Advances (part envelope_at (get_or b envelope_length_at 0) (served b P done k)) (part envelope_ahead_at (get_or b envelope_length_at 0) (served b P done k)) P (get_or b envelope_rate_at 0) (get_or b taken_at 0 + k)
       envelope_advances =
           step_asks b (served b P done k) envelope_at envelope_ahead_at (get_or b envelope_length_at 0) P (get_or b envelope_rate_at 0) (get_or b taken_at 0 + k) envelope-keeps
           ok.period ok.numbers.envelope-long ok.numbers.envelope-rate total-most ok.envelope-small ok.envelope-ahead-small

@@ -1,5 +1,12 @@
-// Where each number of a run stands in its slice: a head, and a block for each of sixteen sessions.
+// Where each number of a run stands in its slice: a head, and a block for each of sixteen sessions. One lent slice of numbers holds the whole run, the form
+// that 01 names; so a block is a part of it and no struct.
 #![tactic(auto)]
+
+ghost use Rattle.std.specs.Prelude.{◌≡◌, ◌+◌, ◌<◌, ◌≤◌, length};
+ghost use Rattle.sheet.specs.Limits.{most_sessions};
+ghost use Rattle.layout.specs.Layout.{run_numbers, block_numbers, block_at, block};
+
+use std::ops::Range;
 
 pub const RUN_NUMBERS: usize = 12288;
 
@@ -50,3 +57,21 @@ pub const RING: u32 = 256;
 
 // A run has at most so many slots.
 pub const MOST_SLOTS: u32 = 1000000;
+
+// Where the block of a session stands; sessions count from 0. A block to be written is lent by it, as no function is proved that lends a part of a slice to be written.
+pub fn block_range(session: usize) -> Range<usize>
+    requires { session < most_sessions }
+    ensures { result ≡ record { start = block_at session; end = block_at session + block_numbers } }
+{
+    let start = HEAD_NUMBERS + session * BLOCK_NUMBERS;
+    start..start + BLOCK_NUMBERS
+}
+
+// The block of a session.
+pub fn block(run: &[u32], session: usize) -> &[u32]
+    requires { (session < most_sessions) × (run_numbers ≤ length run.now) }
+    ensures value { result.now ≡ block run.now session }
+    ensures len { length result.now ≡ block_numbers }
+{
+    &run[block_range(session)]
+}

@@ -1,12 +1,13 @@
 -- What a session's block is before slot 1, and how the parts of its bytes give the block's numbers. Assumes nothing.
-use Rattle.std.specs.Prelude.{◌≡◌, List, [], ◌∷◌, ℕ, zero, ◌+◌, ◌-◌, ◌/◌, ◌≤◌, ◌<◌, length, get_or, replicate}
-use Rattle.std.proofs.Common.{sym, ◌∙◌, inr, arith}
+use Rattle.std.specs.Prelude.{◌≡◌, List, [], ◌∷◌, ℕ, zero, ◌+◌, ◌≤◌, ◌<◌, length, get_or, replicate}
+use Rattle.std.proofs.Common.{sym, ap, ◌∙◌, inr, arith}
 use Rattle.std.proofs.lemmas.List.{length-replicate}
+use Rattle.curve.specs.Curve.{Curve}
+use Rattle.curve.specs.Drawn.{drawn}
 use Rattle.sheet.specs.Sheet.{Session}
-use Rattle.sheet.specs.Bytes.{record_bytes, session_of}
-use Rattle.sheet.proofs.MakesLaws.{service-length, envelope-length}
 use Rattle.sheet.specs.Told.{SessionIn}
-use Rattle.sheet.specs.declared.Session.{Session as SessionAt}
+use Rattle.sheet.proofs.ToldLaws.{service_in, envelope_in, session_is}
+use Rattle.sheet.specs.declared.fields.Session.{Session as SessionAt}
 use Rattle.layout.specs.Layout.{block_numbers, service_at, envelope_at, service_ahead_at, envelope_ahead_at, deadlines_at, ring}
 use Rattle.layout.specs.Over.{over, length_over, over_out}
 use Rattle.layout.specs.Splice.{zeros-at, over_zeros}
@@ -57,15 +58,13 @@ fresh-block s short = sym (over_zeros tables deadlines_at ring fits empty)
         ∙ zeros-at block_numbers i
 
 -- a session taken apart: how many values its tables have, and the numbers of its block
-module _ (rest : List ℕ) (s : SessionAt) (lies : SessionIn rest s) (all : record_bytes rest ≤ length rest) where
-  pub service-values : (s.service.to - s.service.from) / 2 ≡ length (session_of rest).service.table
-  service-values = omega (arith, lies.service-from, lies.service-to, service-length rest all)
+module _ (session : Session) (s : SessionAt) (lies : SessionIn session s) where
+  pub service-values : length (drawn s.service).table ≡ length session.service.table
+  service-values = ap (λ (F : Curve). length F.table) (service_in session s lies)
 
-  pub envelope-values : (s.envelope.to - s.envelope.from) / 2 ≡ length (session_of rest).envelope.table
-  envelope-values = omega (arith, lies.envelope-from, lies.envelope-to, envelope-length rest all)
+  pub envelope-values : length (drawn s.envelope).table ≡ length session.envelope.table
+  envelope-values = ap (λ (F : Curve). length F.table) (envelope_in session s lies)
 
   pub fields_are :
-      (s.service.to - s.service.from) / 2 ∷ (s.envelope.to - s.envelope.from) / 2 ∷ s.room.0 ∷ s.service.rate.0 ∷ s.envelope.rate.0 ∷ 0 ∷ 0 ∷ []
-      ≡ fields_of (session_of rest) (fresh (session_of rest))
-  unfolding session_of
-  fields_are = rw (service-values, envelope-values, lies.room, lies.service-rate, lies.envelope-rate)
+      length (drawn s.service).table ∷ length (drawn s.envelope).table ∷ s.room.0 ∷ s.service.rate.0 ∷ s.envelope.rate.0 ∷ 0 ∷ 0 ∷ [] ≡ fields_of session (fresh session)
+  fields_are = ap (λ (w : Session). fields_of w (fresh w)) (session_is session s lies)

@@ -1,14 +1,14 @@
 -- Laws of specs/Opens.antt. The blocks that opening writes one after the other: where they lie, that each finds zeros in its place, and what the run is at the end. Assumes nothing.
-use Rattle.std.specs.Prelude.{◌≡◌, List, ◌++◌, ℕ, zero, ◌+◌, ◌-◌, ◌≤◌, ◌<◌, get_or, take, drop, replicate}
+use Rattle.std.specs.Prelude.{◌≡◌, List, ◌++◌, ℕ, zero, ◌+◌, ◌-◌, ◌≤◌, ◌<◌, take, drop, replicate}
 use Rattle.std.proofs.Common.{sym, ◌∙◌, inr, add-one, length-append, ext_get_or}
 use Rattle.std.proofs.Math.Path.{ap}
 use native.Mathlib.Omega.{arith}
 use Rattle.std.proofs.Math.ListN.{length, get_or-append}
 use Rattle.std.proofs.lemmas.List.{length-replicate}
 use Rattle.sheet.specs.Sheet.{session}
-use Rattle.sheet.specs.Bytes.{session_of, sheet_of}
-use Rattle.verdict.specs.Ready.{Ready, on_from}
-use Rattle.verdict.proofs.ReadyLaws.{sessions_are, few-sessions, session-there, rest-made}
+use Rattle.sheet.specs.Bytes.{sheet_of}
+use Rattle.sheet.specs.Ready.{Ready}
+use Rattle.sheet.proofs.ReadyLaws.{sessions_are, few-sessions, made_at}
 use Rattle.layout.specs.Layout.{run_numbers, block_numbers, block_at, part}
 use Rattle.layout.specs.Part.{part_length, part_at}
 use Rattle.layout.specs.Over.{over, length_over, over_out}
@@ -45,19 +45,18 @@ module _ (bytes starts : List ℕ) (count c P : ℕ) (r : Ready bytes starts cou
         ∙ zeros-at run_numbers (block_at i + j)
         ∙ sym (zeros-at block_numbers j))
 
-    pub short-tables : ShortTables (session_of (on_from bytes (get_or starts i 0)))
+    pub short-tables : ShortTables (session (sheet_of bytes) i)
     short-tables =
-        let made = rest-made bytes starts count c P r i h in
+        let made = made_at bytes starts count c P r i h in
         record { service = made.service.short; envelope = made.envelope.short }
 
     -- its block given back is the next step
     pub next-block : (l y : List ℕ) → l ≡ blocks_over headed (sheet_of bytes) (moving (sheet_of bytes)) i
-        → y ≡ block_of (session_of (on_from bytes (get_or starts i 0))) (fresh (session_of (on_from bytes (get_or starts i 0))))
+        → y ≡ block_of (session (sheet_of bytes) i) (fresh (session (sheet_of bytes) i))
         → take (block_at i) l ++ (y ++ drop (block_at i + block_numbers - block_at i) (drop (block_at i) l)) ≡ blocks_over headed (sheet_of bytes) (moving (sheet_of bytes)) (i + 1)
     unfolding blocks_over
-    next-block l y e f =
+    next-block l y e g =
         let sheet = sheet_of bytes in
-        let g : y ≡ block_of (session sheet i) (moving sheet i) = f ∙ ap (λ s. block_of s (fresh s)) (session-there bytes starts count c P r i h) in
         let w : block_at i + block_numbers - block_at i ≡ block_numbers = omega arith in
         let n : length y ≡ block_numbers = ap length g ∙ length-block (session sheet i) (moving sheet i) in
         let m : block_at i + block_numbers ≤ length l = omega (arith, ap length e, length-blocks sheet (moving sheet) headed i, headed-length, few-sessions bytes starts count c P r) in

@@ -1,20 +1,20 @@
 -- What `open` answers and leaves in the run, for any bytes and any slice: the refusals 13, 1 to 11 and 12 with their places, or the run before slot 1. Assumes nothing.
-use Rattle.std.specs.Prelude.{◌≡◌, List, [], ◌++◌, ℕ, ◌≤◌, ◌<◌, length, drop}
+use Rattle.std.specs.Prelude.{◌≡◌, Result, Ok, Err, List, [], ◌++◌, ℕ, ◌≤◌, ◌<◌, length, drop}
+use Rattle.refusal.specs.Numbers.{number_of}
+use Rattle.refusal.specs.declared.Refusal.{Refusal}
 use Rattle.sheet.specs.Bytes.{sheet_of}
 use Rattle.verdict.specs.Verdict.{Case, passed, failed, unreadable, Says}
 use Rattle.layout.specs.Layout.{run_numbers}
 use Rattle.history.specs.After.{run_after}
-use Rattle.opening.specs.declared.Opening.{Opening}
-use Rattle.opening.specs.declared.Opening.TheVariants.{Opened, Refused}
 
 -- opened, or a refusal's number and place
 pub data Answer : Type 0 where
   opened : Answer
   refused : ℕ → ℕ → Answer
 
-abbrev pub told : Opening → Answer
-told Opened = opened
-told (Refused number place) = refused number place
+abbrev pub told : Result Unit Refusal → Answer
+told (Ok _) = opened
+told (Err r) = refused (number_of r.cause) r.place
 
 -- by the verdict on the sheet: the reading's refusal, 12 with the least failing slot count, or opened
 abbrev pub answer_by : Case → Answer

@@ -26,11 +26,7 @@ pub struct Spot {
 pub fn byte_at(bytes: &[u8], place: u32) -> u32
     ensures { (result ≡ byte_at bytes.now place) × (result < 256) }
 {
-    let at = place as usize;
-    if bytes.len() <= at {
-        return 0;
-    }
-    words::byte(bytes, at)
+    bytes.get(place as usize).copied().map_or(0, u32::from)
 }
 
 // The number of two bytes at a place, 0 past the end.
@@ -56,15 +52,16 @@ pub fn record_at(bytes: &[u8], start: u32) -> u32
 pub fn session_at(bytes: &[u8], place: u32) -> Spot
     ensures { Holds bytes.now place result }
 {
-    let mut index: u32 = 0;
-    let mut start: u32 = HEAD_BYTES as u32;
-    while index + 1 < MOST_SESSIONS {
+    let mut start = HEAD_BYTES as u32;
+    for index in 0..MOST_SESSIONS - 1 {
         let after = start + record_at(bytes, start);
         if place < after {
             return Spot { index, start };
         }
-        index += 1;
         start = after;
     }
-    Spot { index, start }
+    Spot {
+        index: MOST_SESSIONS - 1,
+        start,
+    }
 }

@@ -1,5 +1,5 @@
 -- The tally that a slot leaves: five totals are added to, the packets waiting are set, and it is too much where a total would pass 4,294,967,295 (refusal 18). Assumes nothing.
-use Rattle.std.specs.Prelude.{◌≡◌, refl, Bool, ◌||◌, ◌⊎◌, ℕ, ◌+◌, ◌-◌, ◌≤◌, ◌<◌, min, ltb}
+use Rattle.std.specs.Prelude.{◌≡◌, refl, Bool, ◌||◌, ◌⊎◌, ℕ, ◌+◌, ◌-◌, ◌≤◌, ◌<◌, min, ltb, Option, Some, None}
 use Rattle.std.proofs.Common.{sym, ◌∙◌, true≢false, inl, inr, arith, ltb-false, le-ltb}
 use Rattle.std.proofs.Math.Path.{ap}
 use Rattle.std.proofs.Math.Bool.{true, false}
@@ -7,8 +7,6 @@ use Rattle.sheet.proofs.RefusalLaws.{or_false, or_neither}
 use Rattle.run.specs.Summed.{Small}
 use Rattle.run.specs.declared.tally.Tally.{Tally}
 use Rattle.run.specs.declared.tally.Sums.{Sums}
-use Rattle.run.specs.declared.tally.Brought.{Brought}
-use Rattle.run.specs.declared.tally.Brought.TheVariants.{Fits, TooMuch}
 
 abbrev pub most_total : ℕ
 most_total = 4294967295
@@ -37,8 +35,8 @@ unfoldable pub too_much : Tally → Bool
 too_much t =
     ltb most_total t.offered || (ltb most_total t.taken_in || (ltb most_total t.over || (ltb most_total t.no_room || ltb most_total t.sent)))
 
-unfoldable pub brought_up : Tally → Sums → ℕ → Brought
-brought_up t s c = elim (too_much (totals_of t s c)) [ true ↦ TooMuch | false ↦ Fits (totals_of t s c) ]
+unfoldable pub brought_up : Tally → Sums → ℕ → Option Tally
+brought_up t s c = elim (too_much (totals_of t s c)) [ true ↦ None | false ↦ Some (totals_of t s c) ]
 
 -- none of them does
 pub record Within (t : Tally) : Type 0 where
@@ -88,28 +86,28 @@ passes-test t n = go (too_much t) refl
 
 module _ (t : Tally) (s : Sums) (c : ℕ) where
   -- the two answers, and exactly when each is given
-  pub brought_fits : Within (totals_of t s c) → brought_up t s c ≡ Fits (totals_of t s c)
+  pub brought_fits : Within (totals_of t s c) → brought_up t s c ≡ Some (totals_of t s c)
   unfolding brought_up
-  brought_fits w = ap (λ (b : Bool). elim b [ true ↦ TooMuch | false ↦ Fits (totals_of t s c) ]) (within-test (totals_of t s c) w)
+  brought_fits w = ap (λ (b : Bool). elim b [ true ↦ None | false ↦ Some (totals_of t s c) ]) (within-test (totals_of t s c) w)
 
-  pub brought_much : (Within (totals_of t s c) → ⊥) → brought_up t s c ≡ TooMuch
+  pub brought_much : (Within (totals_of t s c) → ⊥) → brought_up t s c ≡ None
   unfolding brought_up
-  brought_much n = ap (λ (b : Bool). elim b [ true ↦ TooMuch | false ↦ Fits (totals_of t s c) ]) (passes-test (totals_of t s c) n)
+  brought_much n = ap (λ (b : Bool). elim b [ true ↦ None | false ↦ Some (totals_of t s c) ]) (passes-test (totals_of t s c) n)
 
-  pub brought_which : (Within (totals_of t s c) × (brought_up t s c ≡ Fits (totals_of t s c))) ⊎ ((Within (totals_of t s c) → ⊥) × (brought_up t s c ≡ TooMuch))
+  pub brought_which : (Within (totals_of t s c) × (brought_up t s c ≡ Some (totals_of t s c))) ⊎ ((Within (totals_of t s c) → ⊥) × (brought_up t s c ≡ None))
   brought_which = go (within_or_not (totals_of t s c))
     where
       go : Within (totals_of t s c) ⊎ (Within (totals_of t s c) → ⊥)
-          → (Within (totals_of t s c) × (brought_up t s c ≡ Fits (totals_of t s c))) ⊎ ((Within (totals_of t s c) → ⊥) × (brought_up t s c ≡ TooMuch))
+          → (Within (totals_of t s c) × (brought_up t s c ≡ Some (totals_of t s c))) ⊎ ((Within (totals_of t s c) → ⊥) × (brought_up t s c ≡ None))
       go (inl w) = inl (w, brought_fits w)
       go (inr n) = inr (n, brought_much n)
 
   -- the code's answer: so many are sent, and no sum passes the most
   pub brought_by : (sent : ℕ) → sent ≡ sent_in s c
       → t.offered + s.offered ≤ most_total → t.taken_in + s.taken_in ≤ most_total → t.over + s.over ≤ most_total → t.no_room + s.no_room ≤ most_total → t.sent + sent ≤ most_total
-      → Fits (after t s sent) ≡ brought_up t s c
+      → Some (after t s sent) ≡ brought_up t s c
   brought_by sent e offered taken over no_room fits =
-      ap (λ (x : ℕ). Fits (after t s x)) e
+      ap (λ (x : ℕ). Some (after t s x)) e
       ∙ sym (brought_fits (record { offered = offered; taken_in = taken; over = over; no_room = no_room; sent = omega arith }))
 
 -- a sum that would pass the most: its test makes no sum

@@ -1,4 +1,5 @@
 -- What a slot does to the run, the outcomes and the tally.
+pub mod Totals
 pub mod Summed
 pub mod Brought
 pub mod Why

@@ -1,5 +1,5 @@
 -- What a slot answers and leaves, for any slices and any tally: the refusals 13 to 18, each with nothing changed, or the slot done. One answer and one content for each input. Assumes nothing.
-use Rattle.std.specs.Prelude.{◌≡◌, refl, List, ◌≢◌, ◌⊎◌, ℕ, ◌+◌, ◌≤◌, length, set}
+use Rattle.std.specs.Prelude.{◌≡◌, refl, List, ◌≢◌, ◌⊎◌, ℕ, ◌+◌, ◌≤◌, length, set, Option, Some, None, Result, Ok, Err}
 use Rattle.std.proofs.Common.{sym, ap, ◌∙◌, inl, inr, arith}
 use Rattle.std.proofs.Math.Decide.{ℕ_discrete}
 use Rattle.sheet.specs.Limits.{most_capacity}
@@ -10,29 +10,33 @@ use Rattle.intake.specs.Intakes.{intakes_of, outcomes_of}
 use Rattle.run.specs.Summed.{sums_of}
 use Rattle.run.specs.Brought.{Within, totals_of, brought_up, brought_which}
 use Rattle.run.specs.Why.{capacity_of, period_of, count_of, done_of, Fit, Why, one-why, fit_of, not_18}
-use Rattle.run.specs.declared.Answer.{Answer}
-use Rattle.run.specs.declared.Answer.TheVariants.{Sent, Refused}
+use Rattle.refusal.specs.Numbers.{number_of as cause_number}
+use Rattle.refusal.specs.declared.Cause.{Cause}
+use Rattle.refusal.specs.declared.Refusal.{Refusal}
 use Rattle.run.specs.declared.tally.Tally.{Tally}
-use Rattle.run.specs.declared.tally.Brought.{Brought}
-use Rattle.run.specs.declared.tally.Brought.TheVariants.{Fits, TooMuch}
 
 -- how many were sent, or a refusal's number and place
 pub data Reply : Type 0 where
   sent : ℕ → Reply
   refused : ℕ → ℕ → Reply
 
-abbrev pub told : Answer → Reply
-told (Sent k) = sent k
-told (Refused number place) = refused number place
+abbrev pub told : Result ℕ Refusal → Reply
+told (Ok k) = sent k
+told (Err why) = refused (cause_number why.cause) why.place
+
+-- the number of the refusal for which a slot may not be run, 0 where it may
+abbrev pub why_of : Result (Unit {0}) Cause → ℕ
+why_of (Ok _) = 0
+why_of (Err cause) = cause_number cause
 
 -- the sums of a slot in which the link sends up to so many packets, and what they make of a tally; the run's own capacity is c
-abbrev pub brings_with : ℕ → List ℕ → List ℕ → Tally → Brought
+abbrev pub brings_with : ℕ → List ℕ → List ℕ → Tally → Option Tally
 brings_with capacity run offers tally = brought_up tally (sums_of run offers (count_of run)) capacity
 
 abbrev pub totals_with : ℕ → List ℕ → List ℕ → Tally → Tally
 totals_with capacity run offers tally = totals_of tally (sums_of run offers (count_of run)) capacity
 
-abbrev pub slot_brings : List ℕ → List ℕ → Tally → Brought
+abbrev pub slot_brings : List ℕ → List ℕ → Tally → Option Tally
 slot_brings run = brings_with (capacity_of run) run
 
 abbrev pub slot_totals : List ℕ → List ℕ → Tally → Tally
@@ -63,24 +67,29 @@ pub record Slots (run offers outcomes notes : List ℕ) (tally : Tally) (run' ou
   pub why : ℕ
   pub because : Why run offers (length outcomes) (length notes) why
   pub refuses : why ≢ 0 → Refuses why run outcomes notes tally run' outcomes' notes' tally' reply
-  pub too_much : why ≡ 0 → slot_brings run offers tally ≡ TooMuch → Refuses 18 run outcomes notes tally run' outcomes' notes' tally' reply
-  pub fits : why ≡ 0 → (after : Tally) → slot_brings run offers tally ≡ Fits after → Runs (capacity_of run) run offers outcomes notes after run' outcomes' notes' tally' reply
+  pub too_much : why ≡ 0 → slot_brings run offers tally ≡ None → Refuses 18 run outcomes notes tally run' outcomes' notes' tally' reply
+  pub fits : why ≡ 0 → (after : Tally) → slot_brings run offers tally ≡ Some after → Runs (capacity_of run) run offers outcomes notes after run' outcomes' notes' tally' reply
+
+-- a slot whose refusal has no place: how many packets were sent, and the tally after it
+abbrev pub Steps : (run offers outcomes notes : List ℕ) → Tally → (run' outcomes' notes' : List ℕ) → Result (ℕ × Tally) Cause → Type 0
+Steps run offers outcomes notes tally run' outcomes' notes' (Ok done) = Slots run offers outcomes notes tally run' outcomes' notes' done.1 (sent done.0)
+Steps run offers outcomes notes tally run' outcomes' notes' (Err cause) = Slots run offers outcomes notes tally run' outcomes' notes' tally (refused (cause_number cause) 0)
 
 -- a slot's totals fit, or are too much
 abbrev pub SlotWhich : List ℕ → List ℕ → Tally → Type 0
 SlotWhich run offers tally =
-    (Within (slot_totals run offers tally) × (slot_brings run offers tally ≡ Fits (slot_totals run offers tally))) ⊎ ((Within (slot_totals run offers tally) → ⊥) × (slot_brings run offers tally ≡ TooMuch))
+    (Within (slot_totals run offers tally) × (slot_brings run offers tally ≡ Some (slot_totals run offers tally))) ⊎ ((Within (slot_totals run offers tally) → ⊥) × (slot_brings run offers tally ≡ None))
 
 pub slot_which : (run offers : List ℕ) (tally : Tally) → SlotWhich run offers tally
 slot_which run offers tally = brought_which tally (sums_of run offers (count_of run)) (capacity_of run)
 
-much_or_fits : (t : Tally) → TooMuch ≡ Fits t → ⊥
+much_or_fits : (t : Tally) → None ≡ Some t → ⊥
 much_or_fits t e =
     let z : ◌≡◌ {A = ℕ} 0 1 = cc in
     omega arith
 
-fits_one : (t u : Tally) → Fits t ≡ Fits u → t ≡ u
-fits_one t u e = ap (λ (b : Brought). elim b [ Fits x ↦ x | TooMuch ↦ t ]) e
+fits_one : (t u : Tally) → Some t ≡ Some u → t ≡ u
+fits_one t u e = ap (λ (b : Option Tally). elim b [ Some x ↦ x | None ↦ t ]) e
 
 module _ (run offers outcomes notes : List ℕ) (tally : Tally) where
   -- the three ways, as the program comes to them
@@ -94,7 +103,7 @@ module _ (run offers outcomes notes : List ℕ) (tally : Tally) where
     fits = λ e. absurd (n e);
   }
 
-  pub slots_much : Fit run offers (length outcomes) (length notes) → slot_brings run offers tally ≡ TooMuch
+  pub slots_much : Fit run offers (length outcomes) (length notes) → slot_brings run offers tally ≡ None
       → Slots run offers outcomes notes tally run outcomes notes tally (refused 18 0)
   slots_much f e = record {
     why = 0;
@@ -104,7 +113,7 @@ module _ (run offers outcomes notes : List ℕ) (tally : Tally) where
     fits = λ _ after g. absurd (much_or_fits after (sym e ∙ g));
   }
 
-  pub slots-run : (after : Tally) (run' outcomes' notes' : List ℕ) (reply : Reply) → Fit run offers (length outcomes) (length notes) → slot_brings run offers tally ≡ Fits after
+  pub slots-run : (after : Tally) (run' outcomes' notes' : List ℕ) (reply : Reply) → Fit run offers (length outcomes) (length notes) → slot_brings run offers tally ≡ Some after
       → Runs (capacity_of run) run offers outcomes notes after run' outcomes' notes' after reply
       → Slots run offers outcomes notes tally run' outcomes' notes' after reply
   slots-run after run' outcomes' notes' reply f e r = record {
@@ -131,10 +140,10 @@ sent_or_refused k number place e =
     omega arith
 
 module _ (run offers outcomes notes : List ℕ) (tally : Tally) (run' outcomes' notes' : List ℕ) (tally' : Tally) (reply : Reply) (s : Slots run offers outcomes notes tally run' outcomes' notes' tally' reply) where
-  pub slots_18 : reply ≡ refused 18 0 → Fit run offers (length outcomes) (length notes) × (slot_brings run offers tally ≡ TooMuch)
+  pub slots_18 : reply ≡ refused 18 0 → Fit run offers (length outcomes) (length notes) × (slot_brings run offers tally ≡ None)
   slots_18 e = go (ℕ_discrete s.why 0) (slot_which run offers tally)
     where
-      go : Dec (s.why ≡ 0) → SlotWhich run offers tally → Fit run offers (length outcomes) (length notes) × (slot_brings run offers tally ≡ TooMuch)
+      go : Dec (s.why ≡ 0) → SlotWhich run offers tally → Fit run offers (length outcomes) (length notes) × (slot_brings run offers tally ≡ None)
       go (no d) w =
           let z = ap (number_of 0) (sym (s.refuses d).answers ∙ e) in
           absurd (not_18 run offers (length outcomes) (length notes) s.why s.because z)
@@ -142,11 +151,11 @@ module _ (run offers outcomes notes : List ℕ) (tally : Tally) (run' outcomes' 
       go (yes d) (inr w) = (fit_of run offers (length outcomes) (length notes) s.why s.because d, w.1)
 
   pub slots-sent : (k : ℕ) → reply ≡ sent k
-      → Fit run offers (length outcomes) (length notes) × (slot_brings run offers tally ≡ Fits (slot_totals run offers tally)) × Runs (capacity_of run) run offers outcomes notes (slot_totals run offers tally) run' outcomes' notes' tally' reply
+      → Fit run offers (length outcomes) (length notes) × (slot_brings run offers tally ≡ Some (slot_totals run offers tally)) × Runs (capacity_of run) run offers outcomes notes (slot_totals run offers tally) run' outcomes' notes' tally' reply
   slots-sent k e = go (ℕ_discrete s.why 0) (slot_which run offers tally)
     where
       go : Dec (s.why ≡ 0) → SlotWhich run offers tally
-          → Fit run offers (length outcomes) (length notes) × (slot_brings run offers tally ≡ Fits (slot_totals run offers tally)) × Runs (capacity_of run) run offers outcomes notes (slot_totals run offers tally) run' outcomes' notes' tally' reply
+          → Fit run offers (length outcomes) (length notes) × (slot_brings run offers tally ≡ Some (slot_totals run offers tally)) × Runs (capacity_of run) run offers outcomes notes (slot_totals run offers tally) run' outcomes' notes' tally' reply
       go (no d) w = absurd (sent_or_refused k _ 0 (sym e ∙ (s.refuses d).answers))
       go (yes d) (inl w) = (fit_of run offers (length outcomes) (length notes) s.why s.because d, w.1, s.fits d _ w.1)
       go (yes d) (inr w) = absurd (sent_or_refused k 18 0 (sym e ∙ (s.too_much d w.1).answers))

@@ -2,57 +2,73 @@
 #![tactic(auto)]
 
 ghost use Rattle.run.specs.Why.{Why};
-ghost use Rattle.run.specs.Slot.{told};
+ghost use Rattle.run.specs.Slot.{told, why_of, Steps};
 ghost use Rattle.run.specs.Exact.{Promises};
 
 use intakes::OUTCOME_NUMBERS;
 use layout::{CAPACITY_AT, COUNT_AT, DONE_AT, MOST_SLOTS, PERIOD_AT, RUN_NUMBERS};
+use refusal::{Cause, Refusal};
 use send::NOTE_NUMBERS;
-use tally::{Brought, Tally};
+use tally::Tally;
 
 pub mod intakes;
 pub mod tally;
 
-#[derive(Clone, Copy)]
-pub enum Answer {
-    // How many packets were sent.
-    Sent(u32),
-    // The number of the refusal, and its place.
-    Refused(u32, u32),
-}
-
-// What a slot answers, and the tally after it.
+// What a slot answers, how many packets were sent or why it is refused, and the tally after it.
 #[derive(Clone, Copy)]
 pub struct Slotted {
-    pub answer: Answer,
+    pub answer: Result<u32, Refusal>,
     pub tally: Tally,
 }
 
-// The number of the first of the refusals 13 to 17 that applies, or 0.
-fn refusal(run: &[u32], offers: &[u8], outcomes: usize, sent: usize) -> u32
-    ensures { Why run.now offers.now outcomes sent result }
+// May a slot be run, but for the tally? Else the first of the refusals 13 to 17 that applies.
+fn may_run(run: &[u32], offers: &[u8], outcomes: usize, sent: usize) -> Result<(), Cause>
+    ensures { Why run.now offers.now outcomes sent (why_of result) }
 {
     if run.len() < RUN_NUMBERS {
-        return 13;
+        return Err(Cause::RunTooShort);
     }
-    if guard::opened(run) {
-        let count = run[COUNT_AT] as usize;
-        let capacity = run[CAPACITY_AT] as usize;
-        if offers.len() != count {
-            return 15;
-        }
-        if outcomes < OUTCOME_NUMBERS * count {
-            return 16;
-        }
-        if sent < NOTE_NUMBERS * capacity {
-            return 16;
-        }
-        if run[DONE_AT] < MOST_SLOTS {
-            return 0;
-        }
-        return 17;
+    if !guard::opened(run) {
+        return Err(Cause::NoRun);
     }
-    14
+    let count = run[COUNT_AT] as usize;
+    let capacity = run[CAPACITY_AT] as usize;
+    if offers.len() != count {
+        return Err(Cause::Offers);
+    }
+    if outcomes < OUTCOME_NUMBERS * count {
+        return Err(Cause::ResultsTooShort);
+    }
+    if sent < NOTE_NUMBERS * capacity {
+        return Err(Cause::ResultsTooShort);
+    }
+    let left = run[DONE_AT] < MOST_SLOTS;
+    if !left {
+        return Err(Cause::SlotsDone);
+    }
+    Ok(())
+}
+
+// One slot: how many packets were sent, and the tally after it; or why it is refused, and then nothing is written.
+fn step(
+    run: &mut [u32],
+    offers: &[u8],
+    outcomes: &mut [u32],
+    sent: &mut [u32],
+    tally: Tally,
+) -> Result<(u32, Tally), Cause>
+    ensures { Steps run.old offers.now outcomes.old sent.old tally run.new outcomes.new sent.new result }
+{
+    may_run(run, offers, outcomes.len(), sent.len())?;
+    let capacity = run[CAPACITY_AT];
+    let period = run[PERIOD_AT] as usize;
+    let done = run[DONE_AT];
+    let sums = tally::sum_up(run, offers);
+    let after = tally::brought_up(tally, sums, capacity).ok_or(Cause::TallyFull)?;
+    intakes::intake_all(run, offers, outcomes, period, done);
+    let k = send::send(run, sent, offers.len(), capacity as usize);
+    run[DONE_AT] = done + 1;
+    Ok((k as u32, after))
 }
 
 // One slot: any slices, any tally. A refused call writes nothing and gives the tally back as it came.
@@ -65,31 +81,13 @@ pub fn slot_by_value(
 ) -> Slotted
     ensures { Promises run.old offers.now outcomes.old sent.old tally run.new outcomes.new sent.new result.tally (told result.answer) }
 {
-    let why = refusal(run, offers, outcomes.len(), sent.len());
-    if why != 0 {
-        return Slotted {
-            answer: Answer::Refused(why, 0),
-            tally,
-        };
-    }
-    let capacity = run[CAPACITY_AT];
-    let period = run[PERIOD_AT] as usize;
-    let count = run[COUNT_AT] as usize;
-    let done = run[DONE_AT];
-    let sums = tally::sum_up(run, offers, count);
-    let brought = tally::brought_up(tally, sums, capacity);
-    match brought {
-        Brought::Fits(after) => {
-            intakes::intake_all(run, offers, outcomes, count, period, done);
-            let k = send::send(run, sent, count, capacity as usize);
-            run[DONE_AT] = done + 1;
-            Slotted {
-                answer: Answer::Sent(k as u32),
-                tally: after,
-            }
-        }
-        Brought::TooMuch => Slotted {
-            answer: Answer::Refused(18, 0),
+    match step(run, offers, outcomes, sent, tally) {
+        Ok((count, after)) => Slotted {
+            answer: Ok(count),
+            tally: after,
+        },
+        Err(cause) => Slotted {
+            answer: Err(Refusal::from(cause)),
             tally,
         },
     }
@@ -102,7 +100,7 @@ pub fn slot(
     outcomes: &mut [u32],
     sent: &mut [u32],
     tally: &mut Tally,
-) -> Answer
+) -> Result<u32, Refusal>
     ensures { Promises run.old offers.now outcomes.old sent.old tally.old run.new outcomes.new sent.new tally.new (told result) }
 {
     let before = *tally;

@@ -1,12 +1,10 @@
 // The tally of a run: a slot's sums, told before anything is written, and the six totals brought up to date.
 ghost use Rattle.std.specs.Prelude.{◌≡◌, ◌+◌, ◌≤◌, min, length};
+ghost use Rattle.run.specs.Totals.{six_totals, tally_of};
 ghost use Rattle.run.specs.Summed.{AllSharing, sums_of, Small};
 ghost use Rattle.run.specs.Brought.{most_total, brought_up};
 
-use layout::{BLOCK_NUMBERS, HEAD_NUMBERS, SENT_AT, TAKEN_AT};
-
-// No total passes this: refusal 18.
-const MOST_TOTAL: u32 = 4294967295;
+use layout::{SENT_AT, TAKEN_AT};
 
 // The six totals, in packets.
 #[derive(Clone, Copy)]
@@ -19,7 +17,50 @@ pub struct Tally {
     pub waiting: u32,
 }
 
-// A slot's sums over all sessions, in packets; `waiting` are those that wait before the slot.
+// Before a run's first slot.
+pub const NO_PACKETS: Tally = Tally {
+    offered: 0,
+    taken_in: 0,
+    over: 0,
+    no_room: 0,
+    sent: 0,
+    waiting: 0,
+};
+
+// The tally of six totals, in the order in which they are told.
+impl From<[u32; 6]> for Tally {
+    ghost from_gives = { λ totals tally. tally ≡ tally_of totals };
+
+    fn from(totals: [u32; 6]) -> Tally {
+        let [offered, taken_in, over, no_room, sent, waiting] = totals;
+        Tally {
+            offered,
+            taken_in,
+            over,
+            no_room,
+            sent,
+            waiting,
+        }
+    }
+}
+
+impl Tally {
+    // The six totals in that order.
+    pub fn totals(self) -> [u32; 6]
+        ensures { result ≡ six_totals self }
+    {
+        [
+            self.offered,
+            self.taken_in,
+            self.over,
+            self.no_room,
+            self.sent,
+            self.waiting,
+        ]
+    }
+}
+
+// A slot's sums over all sessions, in packets; `waiting` are those that wait before the slot. Five names are a tally's too: a struct of their own would only nest the six totals that callers read.
 #[derive(Clone, Copy)]
 pub struct Sums {
     pub offered: u32,
@@ -29,75 +70,44 @@ pub struct Sums {
     pub waiting: u32,
 }
 
-// The slot's sums over the first `count` sessions; nothing is written.
-pub fn sum_up(run: &[u32], offers: &[u8], count: usize) -> Sums
-    requires { AllSharing run.now count × (length offers.now ≡ count) }
-    ensures { (result ≡ sums_of run.now offers.now count) × Small result }
+// The slot's sums over all sessions, to each of which a number of packets is offered; nothing is written.
+pub fn sum_up(run: &[u32], offers: &[u8]) -> Sums
+    requires { AllSharing run.now (length offers.now) }
+    ensures { (result ≡ sums_of run.now offers.now (length offers.now)) × Small result }
 {
-    let mut offered: u32 = 0;
-    let mut taken_in: u32 = 0;
-    let mut over: u32 = 0;
-    let mut no_room: u32 = 0;
-    let mut waiting: u32 = 0;
-    let mut i: usize = 0;
-    'sessions: while i < count {
-        let from = HEAD_NUMBERS + i * BLOCK_NUMBERS;
-        let to = from + BLOCK_NUMBERS;
-        let offer = words::byte(offers, i);
-        let share = intake::shares(&run[from..to], offer);
-        let wait = run[from + TAKEN_AT] - run[from + SENT_AT];
-        offered += offer;
-        taken_in += share.taken;
-        over += share.over;
-        no_room += share.no_room;
-        waiting += wait;
-        i += 1;
+    let mut sums = Sums {
+        offered: 0,
+        taken_in: 0,
+        over: 0,
+        no_room: 0,
+        waiting: 0,
+    };
+    for (session, offer) in offers.iter().enumerate() {
+        let block = layout::block(run, session);
+        let offered = u32::from(*offer);
+        let share = intake::shares(block, offered);
+        sums.offered += offered;
+        sums.taken_in += share.taken;
+        sums.over += share.over;
+        sums.no_room += share.no_room;
+        sums.waiting += block[TAKEN_AT] - block[SENT_AT];
     }
-    Sums {
-        offered,
-        taken_in,
-        over,
-        no_room,
-        waiting,
-    }
+    sums
 }
 
-// The tally after a slot, or one of its totals would pass what 32 bits hold.
-#[derive(Clone, Copy)]
-pub enum Brought {
-    Fits(Tally),
-    TooMuch,
-}
-
-// The tally brought up to date by a slot's sums: five totals are added to, the packets waiting are set.
-pub fn brought_up(tally: Tally, sums: Sums, capacity: u32) -> Brought
+// The tally brought up to date by a slot's sums: five totals are added to, the packets waiting are set. None where a total would pass what 32 bits hold.
+pub fn brought_up(tally: Tally, sums: Sums, capacity: u32) -> Option<Tally>
     requires { sums.waiting + sums.taken_in ≤ most_total }
     ensures { result ≡ brought_up tally sums capacity }
 {
     let waiting = sums.waiting + sums.taken_in;
-    let sent = curve::lesser(capacity, waiting);
-    // no sum is made that might wrap
-    if MOST_TOTAL - tally.offered < sums.offered {
-        return Brought::TooMuch;
-    }
-    if MOST_TOTAL - tally.taken_in < sums.taken_in {
-        return Brought::TooMuch;
-    }
-    if MOST_TOTAL - tally.over < sums.over {
-        return Brought::TooMuch;
-    }
-    if MOST_TOTAL - tally.no_room < sums.no_room {
-        return Brought::TooMuch;
-    }
-    if MOST_TOTAL - tally.sent < sent {
-        return Brought::TooMuch;
-    }
-    Brought::Fits(Tally {
-        offered: tally.offered + sums.offered,
-        taken_in: tally.taken_in + sums.taken_in,
-        over: tally.over + sums.over,
-        no_room: tally.no_room + sums.no_room,
-        sent: tally.sent + sent,
+    let sent = capacity.min(waiting);
+    Some(Tally {
+        offered: tally.offered.checked_add(sums.offered)?,
+        taken_in: tally.taken_in.checked_add(sums.taken_in)?,
+        over: tally.over.checked_add(sums.over)?,
+        no_room: tally.no_room.checked_add(sums.no_room)?,
+        sent: tally.sent.checked_add(sent)?,
         waiting: waiting - sent,
     })
 }

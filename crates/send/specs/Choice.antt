@@ -1,6 +1,6 @@
 -- The packet that goes next: of the first waiting packets of the sessions the one with the least deadline, ties to the lower session. An executable choice, its law, and that the law leaves one choice. Assumes nothing.
-use Rattle.std.specs.Prelude.{◌≡◌, refl, ◌≢◌, Bool, true, false, ◌&&◌, ◌||◌, List, ℕ, zero, suc, ◌+◌, ◌%◌, ◌≤◌, ◌<◌, ltb, eqb, get_or}
-use Rattle.std.proofs.Common.{sym, ap, ◌∙◌, arith}
+use Rattle.std.specs.Prelude.{◌≡◌, refl, ◌≢◌, Bool, true, false, ◌&&◌, ◌||◌, List, ℕ, zero, suc, ◌+◌, ◌%◌, ◌≤◌, ◌<◌, ltb, eqb, get_or, Option, Some, None}
+use Rattle.std.proofs.Common.{sym, ap, ◌∙◌, true≢false, arith}
 use Rattle.std.proofs.Math.Decide.{dec_lt, ℕ_discrete}
 use borrow.Author.Tests.{lt-ltb, le-ltb, eq-eqb, ne_eqb}
 use Rattle.layout.specs.Layout.{block_at, taken_at, sent_at, deadlines_at, ring}
@@ -14,6 +14,10 @@ sent_of run i = get_or run (block_at i + sent_at) 0
 
 abbrev pub Waits : List ℕ → ℕ → Type 0
 Waits run i = sent_of run i < taken_of run i
+
+-- by a test of it
+pub idle : (run : List ℕ) (i : ℕ) (b : Bool) → (Waits run i → b ≡ true) → b ≡ false → taken_of run i ≤ sent_of run i
+idle run i b t e = elim (dec_lt (sent_of run i) (taken_of run i)) [ yes w ↦ absurd (true≢false (sym (t w) ∙ e)) | no z ↦ omega arith ]
 
 -- where the deadline of the first of them stands, and the deadline
 abbrev pub head_at : List ℕ → ℕ → ℕ
@@ -37,6 +41,11 @@ chosen_to run count (suc j) = better run count (chosen_to run count j) j
 -- CHOICE: the session whose first waiting packet goes next, `count` where none waits
 unfoldable pub chosen : List ℕ → ℕ → ℕ
 chosen run count = chosen_to run count count
+
+-- an option has a session below count, or it is none where the session is count
+abbrev pub Found : ℕ → Option ℕ → ℕ → Type 0
+Found count None r = r ≡ count
+Found count (Some i) r = (i < count) × (r ≡ i)
 
 pub chosen-to : (run : List ℕ) (count : ℕ) → chosen_to run count count ≡ chosen run count
 unfolding chosen
@@ -68,6 +77,10 @@ module _ (run : List ℕ) (count best i : ℕ) where
   pub beats-later : Waits run i → best ≢ count → head_due run best ≤ head_due run i → beats run count best i ≡ false
   unfolding beats
   beats-later w n h = rw (lt-ltb (sent_of run i) (taken_of run i) w, ne_eqb best count n, le-ltb (head_due run i) (head_due run best) h)
+
+  pub beats-due : Waits run i → best ≢ count → beats run count best i ≡ ltb (head_due run i) (head_due run best)
+  unfolding beats
+  beats-due w n = rw (lt-ltb (sent_of run i) (taken_of run i) w, ne_eqb best count n) refl
 
   pub better-new : beats run count best i ≡ true → better run count best i ≡ i
   unfolding better

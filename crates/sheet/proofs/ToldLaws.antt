@@ -1,9 +1,13 @@
--- Laws of specs/Told.antt. What the reader's answer says in document 01's numbers, what it has to say of the bytes, and that only one answer says it. Assumes nothing.
-use Rattle.std.specs.Prelude.{◌≡◌, List, ℕ, ◌-◌, ◌*◌}
-use Rattle.std.proofs.Common.{arith}
-use Rattle.sheet.specs.Bytes.{service_length, envelope_length, session_of}
-use Rattle.sheet.specs.declared.Session.{Session as SessionAt}
-use Rattle.sheet.specs.Told.{read, refusal, table_in, SessionIn}
+-- Laws of specs/Told.antt. What the reader's answer says in document 01's numbers, and what a check that comes first leaves to those after it. Assumes nothing.
+use Rattle.std.specs.Prelude.{◌≡◌, Result, Ok, Err, List, ◌++◌, ℕ}
+use Rattle.std.proofs.Common.{sym, ap, ◌∙◌, arith}
+use Rattle.curve.specs.Drawn.{drawn}
+use Rattle.refusal.specs.declared.Refusal.{Refusal as Refused}
+use Rattle.sheet.specs.Refusal.{Refusal, Line, first, Clear}
+use Rattle.sheet.proofs.RefusalLaws.{first_found, first-clear}
+use Rattle.sheet.specs.Sheet.{Session}
+use Rattle.sheet.specs.declared.fields.Session.{Session as SessionAt}
+use Rattle.sheet.specs.Told.{read, refusal, fault, SessionIn, as_session}
 
 -- the two are apart
 pub read-refusal : (c P m number place : ℕ) → read c P m ≡ refusal number place → ⊥
@@ -11,16 +15,26 @@ read-refusal c P m number place e =
     let z : ◌≡◌ {A = ℕ} 0 1 = cc in
     omega arith
 
-module _ (rest : List ℕ) (s : SessionAt) (h : SessionIn rest s) where
-  -- the parts are the session's curves
-  pub service_in : table_in rest s.service ≡ (session_of rest).service
-  unfolding session_of
-  service_in =
-      let e : s.service.to - s.service.from ≡ 2 * service_length rest = omega (arith, h.service-to, h.service-from) in
-      rw (e, h.service-from, h.service-rate)
+-- a check that finds nothing: none of its lines applies
+pub check_clear : (xs : List Line) {a : Result Unit Refused} {u : Unit} → fault a ≡ first xs → a ≡ Ok u → Clear xs
+check_clear xs f e = sym f ∙ ap fault e
 
-  pub envelope_in : table_in rest s.envelope ≡ (session_of rest).envelope
-  unfolding session_of
-  envelope_in =
-      let e : s.envelope.to - s.envelope.from ≡ 2 * envelope_length rest = omega (arith, h.envelope-to, h.envelope-from) in
-      rw (e, h.envelope-from, h.envelope-rate)
+-- what it finds is found first
+pub check_found : (xs ys : List Line) {a : Result Unit Refused} {r : Refused} → fault a ≡ first xs → a ≡ Err r → fault (Err r) ≡ first (xs ++ ys)
+check_found xs ys f e = sym (first_found xs ys _ _ (sym f ∙ ap fault e))
+
+-- with nothing found, it is left to what comes after
+pub check_next : (xs ys : List Line) {a : Result Unit Refused} {u : Unit} {o : Refusal} → fault a ≡ first xs → a ≡ Ok u → o ≡ first ys → o ≡ first (xs ++ ys)
+check_next xs ys f e g = g ∙ sym (first-clear xs ys (check_clear xs f e))
+
+module _ (session : Session) (s : SessionAt) (h : SessionIn session s) where
+  -- the parts are the session's curves
+  pub service_in : drawn s.service ≡ session.service
+  service_in = h.service
+
+  pub envelope_in : drawn s.envelope ≡ session.envelope
+  envelope_in = h.envelope
+
+  -- and it is that session
+  pub session_is : as_session s ≡ session
+  session_is = λ i. record { service = service_in i; envelope = envelope_in i; room = h.room i }

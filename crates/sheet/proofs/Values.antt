@@ -1,11 +1,11 @@
 -- One value further along a table: what its line does to the first fault. Assumes nothing.
-use Rattle.std.specs.Prelude.{◌≡◌, List, ◌∷◌, ℕ, suc, ◌+◌, ◌-◌, ◌≤◌, ◌<◌, ltb, length, get_or, drop}
-use Rattle.std.proofs.Common.{sym, ◌∙◌, add-one, arith, lt-ltb, le-ltb, drop_of_length-le, drop-cons}
+use Rattle.std.specs.Prelude.{◌≡◌, ◌⊎◌, List, [], ◌∷◌, ℕ, suc, ◌+◌, ◌-◌, ◌≤◌, ◌<◌, ltb, length, get_or, drop}
+use Rattle.std.proofs.Common.{sym, ◌∙◌, inl, inr, add-one, arith, lt-ltb, le-ltb, drop_of_length-le, drop-cons}
 use Rattle.std.proofs.Math.Path.{ap}
 use Rattle.curve.specs.Curve.{Curve, at}
 use Rattle.curve.proofs.CurveLaws.{at_table}
 use Rattle.sheet.specs.Limits.{largest_value}
-use Rattle.sheet.specs.Refusal.{none, refused, first}
+use Rattle.sheet.specs.Refusal.{none, refused, line, first}
 use Rattle.sheet.proofs.RefusalLaws.{first-here, first_next, clear-nil, or_left, or_right, or_neither}
 use Rattle.sheet.specs.Reading.{value_lines}
 
@@ -31,6 +31,11 @@ module _ (vs : List ℕ) (before place i : ℕ) (h : i < length vs) where
       ∙ first-here _ _ _ _
       (or_right (ltb largest_value (get_or vs i 0)) (ltb (get_or vs i 0) before) (le-ltb largest_value (get_or vs i 0) a) (lt-ltb (get_or vs i 0) before b))
 
+  -- so either of them is refused
+  pub values_faulty : (v : ℕ) → v ≡ get_or vs i 0 → (largest_value < v) ⊎ ((v ≤ largest_value) × (v < before)) → first (value_lines (drop i vs) before place) ≡ refused 10 place
+  values_faulty v e (inl a) = values_above (omega (arith, e))
+  values_faulty v e (inr a) = values_falling (omega (arith, e)) (omega (arith, e))
+
   -- neither
   pub values-next : get_or vs i 0 ≤ largest_value → before ≤ get_or vs i 0
       → first (value_lines (drop i vs) before place) ≡ first (value_lines (drop (i + 1) vs) (get_or vs i 0) (place + 2))
@@ -51,3 +56,15 @@ pub join_high : (P : ℕ) (F : Curve) → 1 ≤ length F.table → at P F (lengt
 join_high P F l =
     let e : length F.table ≡ suc (length F.table - 1) = omega arith in
     ap (at P F) e ∙ at_table P F (length F.table - 1) (omega arith)
+
+-- the join's line, by those two values
+module _ (P : ℕ) (F : Curve) (place : ℕ) (p : 1 ≤ P) (l : P ≤ length F.table) where
+  pub join_falls : get_or F.table (length F.table - P) 0 + F.rate < get_or F.table (length F.table - 1) 0
+      → first (line 10 (ltb (at P F (length F.table + 1 - P) + F.rate) (at P F (length F.table))) place ∷ []) ≡ refused 10 place
+  join_falls h =
+      first-here _ _ _ _ (lt-ltb _ _ (rw (join-low P F p l, join_high P F (omega arith)) h))
+
+  pub join_holds : get_or F.table (length F.table - 1) 0 ≤ get_or F.table (length F.table - P) 0 + F.rate
+      → first (line 10 (ltb (at P F (length F.table + 1 - P) + F.rate) (at P F (length F.table))) place ∷ []) ≡ none
+  join_holds h =
+      first_next _ _ _ _ (le-ltb _ _ (rw (join-low P F p l, join_high P F (omega arith)) h)) ∙ clear-nil

@@ -1,5 +1,5 @@
 -- Laws of specs/Walk.antt. What the reader keeps on its way from session to session, and what it may answer where the way ends. Assumes nothing.
-use Rattle.std.specs.Prelude.{◌≡◌, ◌⊎◌, List, [], ◌∷◌, ◌++◌, ltb, length, get_or, set, take, drop}
+use Rattle.std.specs.Prelude.{◌≡◌, ◌⊎◌, Ok, Err, List, [], ◌∷◌, ◌++◌, ltb, length, get_or, set, take, drop}
 use Rattle.std.proofs.Math.Path.{sym}
 use Rattle.std.proofs.Common.{ap, ◌∙◌, inl, inr, add-one, lt-ltb, le-ltb, length-set, length-drop, take_all, drop-drop, get_or-set_same, get_or-set_other}
 use Prim.Native.Nat.{ℕ, zero, suc, ◌+◌, ◌-◌, ◌≤◌, ◌<◌}
@@ -8,8 +8,8 @@ use native.Mathlib.Omega.{arith}
 use Rattle.std.proofs.lemmas.List.{length-replicate, get_or-replicate}
 use Rattle.std.proofs.Math.ListN.{get_or-eq_default}
 use Rattle.curve.proofs.OrderLaws.{le_or_lt}
-use Rattle.curve.specs.declared.Packets.{Packets}
-use Rattle.curve.specs.declared.Slots.{Slots}
+use Rattle.refusal.specs.Numbers.{number_of}
+use Rattle.refusal.specs.declared.Refusal.{Refusal as Refused}
 use Rattle.sheet.specs.Limits.{most_sessions, head_bytes}
 use Rattle.sheet.specs.Refusal.{none, refused, line, first, Clear}
 use Rattle.sheet.proofs.RefusalLaws.{first_found, first-clear, first-here, first_next, clear-nil}
@@ -19,7 +19,7 @@ use Rattle.sheet.specs.Starts.{start_of}
 use Rattle.sheet.proofs.StartsLaws.{start-zero, start-suc}
 use Rattle.sheet.proofs.MakesLaws.{session-fields}
 use Rattle.sheet.specs.Told.{answer_to, sessions_read, no_starts, placed, Reads}
-use Rattle.sheet.specs.declared.Outcome.TheVariants.{Read, Refused}
+use Rattle.sheet.specs.declared.Reading.{Reading}
 use Rattle.sheet.specs.Walk.{Reached}
 
 -- a place is a session's start, or 0
@@ -116,24 +116,25 @@ pub from-here : (bytes : List ℕ) (at : ℕ) → take (length bytes - at) (drop
 from-here bytes at = take_all (length bytes - at) (drop at bytes) (omega (arith, length-drop at bytes))
 
 -- what may be answered
-pub reads-refused : (bytes : List ℕ) (number place : ℕ) → reading bytes ≡ refused number place → Reads bytes (Refused number place) no_starts
+pub reads-refused : (bytes : List ℕ) (r : Refused) → reading bytes ≡ refused (number_of r.cause) r.place → Reads bytes (Err r)
 unfolding answer_to sessions_read
-reads-refused bytes number place e =
+reads-refused bytes r e =
     record {
       outcome_is = rw e;
       sixteen = sixteen-zeros;
       each = rw e (zeros bytes);
     }
 
-pub reads-read : (bytes : List ℕ) (c : Packets) (period : Slots) (at : ℕ) (starts : List ℕ) → reading bytes ≡ none
-    → c.0 ≡ capacity_of bytes
-    → period.0 ≡ period_of bytes
-    → Reached bytes (count_of bytes) at starts
-    → Reads bytes (Read c period (count_of bytes)) starts
+pub reads-read : (bytes : List ℕ) (r : Reading) (at : ℕ) → reading bytes ≡ none
+    → r.capacity.0 ≡ capacity_of bytes
+    → r.period.0 ≡ period_of bytes
+    → r.count ≡ count_of bytes
+    → Reached bytes (count_of bytes) at r.starts
+    → Reads bytes (Ok r)
 unfolding answer_to sessions_read
-reads-read bytes c period at starts e ec ep r =
+reads-read bytes r at e ec ep em w =
     record {
-      outcome_is = rw (e, ec, ep);
-      sixteen = r.sixteen;
-      each = rw e r.each;
+      outcome_is = rw (e, ec, ep, em);
+      sixteen = w.sixteen;
+      each = rw e w.each;
     }

@@ -11,3 +11,4 @@ pub mod Written
 pub mod Told
 pub mod Walk
 pub mod Tells
+pub mod Ready

@@ -8,14 +8,17 @@ use Rattle.sheet.proofs.ClearsLaws.{clear-head}
 use Rattle.sheet.proofs.StartsLaws.{clear-parts}
 use Rattle.opening.specs.Open.{Answer, opened, refused}
 use Rattle.layout.specs.Layout.{done_at}
-use Rattle.run.specs.Slot.{Reply}
+use Rattle.run.specs.Slot.{told}
 use Rattle.run.specs.Exact.{Promises}
 use Rattle.run.specs.declared.tally.Tally.{Tally}
 use Rattle.console.specs.Put.{Put}
 use Rattle.slotrun.specs.Text.{packet_line, packet_lines, cut_line, total_line, end_text, slot_text, refusal_of}
 use Rattle.slotrun.specs.Shows.{slot_bytes, Shows, FirstIs, Begins}
-use Rattle.slotrun.specs.declared.first.First.TheVariants.{Running, Refused}
-use Rattle.slotrun.specs.declared.slots.Printed.{Printed}
+use Rattle.std.specs.declared.result.Result.{Result}
+use Rattle.std.specs.declared.result.Result.TheVariants.{Ok, Err}
+use Rattle.console.specs.Text.{line_bytes}
+use Rattle.refusal.specs.declared.Refusal.{Refusal}
+use Rattle.slotrun.specs.declared.slots.Over.{Over}
 
 pub no_lines : (slot : ℕ) (notes : List ℕ) → packet_lines slot notes 0 ≡ []
 unfolding packet_lines
@@ -51,24 +54,24 @@ not_opened number place e =
     omega arith
 
 -- a slot that was done or refused, with its text
-pub shows : {run offers outcomes notes run' outcomes' notes' page page' : List ℕ} {before : Tally} {at : ℕ} {p : Printed} {reply : Reply} → Promises run offers outcomes notes before run' outcomes' notes' p.tally reply
-    → 48 ≤ length outcomes → 192 ≤ length notes → Put page at (slot_text (get_or run' done_at 0) notes' reply) page' p.end → p.refusal ≡ refusal_of reply → p.end ≤ at + slot_bytes
-    → Shows run offers before page at run' page' p
-shows does o n puts ends fits = record { outcomes = _; outcomes' = _; notes = _; notes' = _; reply = _; outcomes-fit = o; notes-fit = n; does = does; puts = puts; ends = ends; fits = fits }
+pub shows : {run offers outcomes notes run' outcomes' notes' page page' : List ℕ} {before after : Tally} {ended : Result Unit Over} (answer : Result ℕ Refusal) → Promises run offers outcomes notes before run' outcomes' notes' after (told answer)
+    → 48 ≤ length outcomes → 192 ≤ length notes → Put page (slot_text (get_or run' done_at 0) notes' (told answer)) page' → ended ≡ refusal_of answer → length page' ≤ length page + slot_bytes
+    → Shows run offers before page run' after page' ended
+shows answer does o n puts ends fits = record { outcomes = _; outcomes' = _; notes = _; notes' = _; answer = answer; outcomes-fit = o; notes-fit = n; does = does; puts = puts; ends = ends; fits = fits }
 
 -- a run that is opened has between 1 and 16 sessions; its first line is short, and so is that of a refusal
-pub running : {bytes run page run' page' : List ℕ} {end count : ℕ} → Begins bytes run page run' page' (Running end count) → (1 ≤ count) × (count ≤ 16) × (end ≤ 256)
-running {bytes} {run} {page} {run'} {page'} {end} {count} b = go b.answer b.first
+pub running : {bytes run page run' page' : List ℕ} {count : ℕ} → Begins bytes run page run' page' (Ok count) → (1 ≤ count) × (count ≤ 16) × (length page' ≤ length page + line_bytes)
+running {bytes} {run} {page} {run'} {page'} {count} b = go b.answer b.first
   where
-    go : (a : Answer) → FirstIs a bytes page page' (Running end count) → (1 ≤ count) × (count ≤ 16) × (end ≤ 256)
+    go : (a : Answer) → FirstIs a bytes page page' (Ok count) → (1 ≤ count) × (count ≤ 16) × (length page' ≤ length page + line_bytes)
     go opened f =
         let h = head-reads bytes f.says.0 in
         (omega (arith, h.some-session, f.count-is), omega (arith, h.few, f.count-is), f.fits)
     go (refused number place) f = absurd f
 
-pub told-short : {bytes run page run' page' : List ℕ} {end n p : ℕ} → Begins bytes run page run' page' (Refused end n p) → end ≤ 256
-told-short {bytes} {run} {page} {run'} {page'} {end} {n} {p} b = go b.answer b.first
+pub told-short : {bytes run page run' page' : List ℕ} {refusal : Refusal} → Begins bytes run page run' page' (Err refusal) → length page' ≤ length page + line_bytes
+told-short {bytes} {run} {page} {run'} {page'} {refusal} b = go b.answer b.first
   where
-    go : (a : Answer) → FirstIs a bytes page page' (Refused end n p) → end ≤ 256
+    go : (a : Answer) → FirstIs a bytes page page' (Err refusal) → length page' ≤ length page + line_bytes
     go opened f = absurd f
     go (refused number place) f = f.fits

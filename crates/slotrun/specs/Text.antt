@@ -4,6 +4,11 @@ use Rattle.console.specs.Text.{decimal, next, refused_line}
 use Rattle.curve.specs.declared.Slots.{Slots}
 use Rattle.run.specs.Slot.{Reply, sent, refused}
 use Rattle.run.specs.declared.tally.Tally.{Tally}
+use Rattle.std.specs.declared.result.Result.{Result}
+use Rattle.std.specs.declared.result.Result.TheVariants.{Ok, Err}
+use Rattle.refusal.specs.declared.Refusal.{Refusal}
+use Rattle.slotrun.specs.declared.slots.Over.{Over}
+use Rattle.slotrun.specs.declared.slots.Over.TheVariants.{Refused}
 
 -- the first `count` of some figures
 unfoldable pub nexts : List Slots → ℕ → List ℕ
@@ -37,10 +42,10 @@ unfoldable pub slot_text : ℕ → List ℕ → Reply → List ℕ
 slot_text slot notes (sent k) = packet_lines slot notes k
 slot_text slot notes (refused number place) = refused_line number place
 
--- the number of the refusal that ends the run, 0 for a slot that is done
-unfoldable pub refusal_of : Reply → ℕ
-refusal_of (sent k) = 0
-refusal_of (refused number place) = number
+-- a slot that is done lets the run go on; a refusal ends it
+unfoldable pub refusal_of : Result ℕ Refusal → Result Unit Over
+refusal_of (Ok k) = Ok tt
+refusal_of (Err refusal) = Err (Refused refusal)
 
 -- WHAT ENDS THE PRINT-OUT, where so many bytes of an unfinished slot are left: cut if there are some, and the total
 unfoldable pub end_text : ℕ → Tally → List ℕ

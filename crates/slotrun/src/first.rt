@@ -1,59 +1,45 @@
 // The first line: a run is opened on the sheet, and the verdict or the refusal is put into the page.
-ghost use Rattle.std.specs.Prelude.{◌≡◌, ◌≤◌, length};
+ghost use Rattle.std.specs.Prelude.{◌≡◌, ◌+◌, ◌≤◌, length};
+ghost use Rattle.console.specs.Text.{line_bytes};
 ghost use Rattle.verdict.specs.Verdict.{told, Judges};
 ghost use Rattle.opening.specs.Open.{opened, answer_by};
 ghost use Rattle.slotrun.specs.Shows.{FirstIs, Begins};
 
 use crate::lines;
-use console::put;
+use console::text::Text;
 use layout::RUN_NUMBERS;
-use opening::Opening;
+use refusal::Refusal;
 use verdict::{Answer, Verdict};
 
 // Where the number of sessions stands in a sheet.
 const COUNT_AT: usize = 7;
 
-// What comes of the sheet. First, where its line ends in the page.
-#[derive(Clone, Copy)]
-pub enum First {
-    // A run of so many sessions.
-    Running(usize, usize),
-    // The number of the refusal, and its place.
-    Refused(usize, u32, u32),
-}
-
-// The line of a sheet that passes.
-fn pass(bytes: &[u8], answer: Answer, page: &mut [u8]) -> First
-    requires { Judges bytes.now answer.verdict answer.figures × (answer_by (told answer.verdict) ≡ opened) × (256 ≤ length page.old) }
+// Puts the line of a sheet that passes, and answers how many sessions it has.
+fn pass<const N: usize>(bytes: &[u8], answer: Answer, page: &mut Text<N>) -> Result<usize, Refusal>
+    requires { Judges bytes.now answer.verdict answer.figures × (answer_by (told answer.verdict) ≡ opened) × (length page.old + line_bytes ≤ N) }
     ensures { FirstIs opened bytes.now page.old page.new result }
 {
-    let verdict = answer.verdict;
-    let figures = answer.figures;
-    match verdict {
-        Verdict::Passed(slack, t) => {
-            let count = words::byte(bytes, COUNT_AT) as usize;
-            let end = lines::put_passed(page, 0, slack, t, figures, count);
-            First::Running(end, count)
-        }
-        // The sheet passes: these do not arise.
-        Verdict::Failed(_) => First::Running(0, 0),
-        Verdict::Unreadable(_, _) => First::Running(0, 0),
-    }
+    let Verdict::Passed(slack, t) = answer.verdict else {
+        unreachable!()
+    };
+    let count = words::byte(bytes, COUNT_AT) as usize;
+    lines::put_passed(page, slack, t, &answer.figures, count);
+    Ok(count)
 }
 
-// Opens a run on the sheet, and puts the first line into the page.
-pub fn begin(bytes: &[u8], run: &mut [u32; RUN_NUMBERS], page: &mut [u8]) -> First
-    requires { 256 ≤ length page.old }
+// Opens a run on the sheet and puts the first line into the page. The answer is the number of sessions, or the refusal.
+pub fn begin<const N: usize>(
+    bytes: &[u8],
+    run: &mut [u32; RUN_NUMBERS],
+    page: &mut Text<N>,
+) -> Result<usize, Refusal>
+    requires { length page.old + line_bytes ≤ N }
     ensures { Begins bytes.now run.old page.old run.new page.new result }
 {
     let opened = opening::open_judged(bytes, run);
-    let answer = opened.answer;
-    let opening = opened.opening;
-    match opening {
-        Opening::Refused(number, place) => {
-            let end = put::refused(page, 0, number, place);
-            First::Refused(end, number, place)
-        }
-        Opening::Opened => pass(bytes, answer, page),
+    if let Err(refusal) = opened.opening {
+        page.put_refused(refusal.number(), refusal.place);
+        return Err(refusal);
     }
+    pass(bytes, opened.answer, page)
 }

@@ -1,10 +1,11 @@
-// The lines of the print-out. Each is put into the page at a place, and the place after it is answered.
+// The lines of the print-out, each put behind the text of a page.
 ghost use Rattle.std.specs.Prelude.{◌+◌, ◌≤◌, length};
 ghost use Rattle.slotrun.specs.Text.{nexts, passed_line, packet_line, packet_lines, total_line, end_text};
 ghost use Rattle.slotrun.specs.Shows.{slot_bytes};
 ghost use Rattle.console.specs.Put.{Put};
+ghost use Rattle.console.specs.Text.{line_bytes};
 
-use console::put;
+use console::text::Text;
 use curve::{Packets, Slots};
 use run::tally::Tally;
 
@@ -12,99 +13,92 @@ use run::tally::Tally;
 pub const NOTES: usize = 192;
 
 // The figures of the sessions.
-fn put_figures(page: &mut [u8], at: usize, figures: [Slots; 16], count: usize) -> usize
-    requires { (count ≤ 16) × (at + 176 ≤ length page.old) }
-    ensures { Put page.old at (nexts figures count) page.new result × (result ≤ at + 176) }
+fn put_figures<const N: usize>(page: &mut Text<N>, figures: &[Slots; 16], count: usize)
+    requires { (count ≤ 16) × (length page.old + 176 ≤ N) }
+    ensures put { Put page.old (nexts figures.now count) page.new }
+    ensures few { length page.new ≤ length page.old + 176 }
 {
-    let mut end = at;
-    let mut i: usize = 0;
-    while i < count {
-        let figure = figures[i];
-        end = put::next(page, end, figure.0);
-        i += 1;
+    for figure in &figures[..count] {
+        page.put_next(figure.0);
     }
-    end
 }
 
 // The first line: the slack, its t, and the figures of the sessions.
-pub fn put_passed(
-    page: &mut [u8],
-    at: usize,
+#[tactic(auto, unfolding(crate::specs::Text::passed_line))]
+pub fn put_passed<const N: usize>(
+    page: &mut Text<N>,
     slack: Packets,
     t: Slots,
-    figures: [Slots; 16],
+    figures: &[Slots; 16],
     count: usize,
-) -> usize
-    requires { (count ≤ 16) × (at + 256 ≤ length page.old) }
-    ensures { Put page.old at (passed_line slack.0 t.0 figures count) page.new result × (result ≤ at + 256) }
+)
+    requires { (count ≤ 16) × (length page.old + line_bytes ≤ N) }
+    ensures put { Put page.old (passed_line slack.0 t.0 figures.now count) page.new }
+    ensures few { length page.new ≤ length page.old + line_bytes }
 {
-    let mut end = put::text(page, at, b"passed");
-    end = put::next(page, end, slack.0);
-    end = put::next(page, end, t.0);
-    end = put_figures(page, end, figures, count);
-    put::end(page, end)
+    page.put_text(b"passed");
+    page.put_next(slack.0);
+    page.put_next(t.0);
+    put_figures(page, figures, count);
+    page.put_end();
 }
 
 // A packet sent: its slot, its session, its number and its deadline.
-pub fn put_packet(
-    page: &mut [u8],
-    at: usize,
+#[tactic(auto, unfolding(crate::specs::Text::packet_line))]
+fn put_packet<const N: usize>(
+    page: &mut Text<N>,
     slot: u32,
     session: u32,
     packet: u32,
     deadline: u32,
-) -> usize
-    requires { at + 256 ≤ length page.old }
-    ensures { Put page.old at (packet_line slot session packet deadline) page.new result × (result ≤ at + 256) }
+)
+    requires { length page.old + line_bytes ≤ N }
+    ensures put { Put page.old (packet_line slot session packet deadline) page.new }
+    ensures few { length page.new ≤ length page.old + line_bytes }
 {
-    let mut end = put::number(page, at, slot);
-    end = put::next(page, end, session);
-    end = put::next(page, end, packet);
-    end = put::next(page, end, deadline);
-    put::end(page, end)
+    page.put_number(slot);
+    page.put_next(session);
+    page.put_next(packet);
+    page.put_next(deadline);
+    page.put_end();
 }
 
 // The lines of the packets that a slot sent; three numbers are told of each.
-pub fn put_packets(page: &mut [u8], at: usize, slot: u32, notes: &[u32; NOTES], sent: u32) -> usize
-    requires { (sent ≤ 64) × (at + slot_bytes ≤ length page.old) }
-    ensures { Put page.old at (packet_lines slot notes.now sent) page.new result × (result ≤ at + slot_bytes) }
+pub fn put_packets<const N: usize>(page: &mut Text<N>, slot: u32, notes: &[u32; NOTES], sent: u32)
+    requires { (sent ≤ 64) × (length page.old + slot_bytes ≤ N) }
+    ensures put { Put page.old (packet_lines slot notes.now sent) page.new }
+    ensures few { length page.new ≤ length page.old + slot_bytes }
 {
-    let mut end = at;
-    let mut i: u32 = 0;
-    while i < sent {
-        let note = 3 * i as usize;
-        let session = notes[note];
-        let packet = notes[note + 1];
-        let deadline = notes[note + 2];
-        end = put_packet(page, end, slot, session, packet, deadline);
-        i += 1;
+    for note in notes[..3 * sent as usize].chunks_exact(3) {
+        put_packet(page, slot, note[0], note[1], note[2]);
     }
-    end
 }
 
 // The last line: the six totals.
-fn put_total(page: &mut [u8], at: usize, tally: Tally) -> usize
-    requires { at + 256 ≤ length page.old }
-    ensures { Put page.old at (total_line tally) page.new result × (result ≤ at + 256) }
+#[tactic(auto, unfolding(crate::specs::Text::total_line))]
+fn put_total<const N: usize>(page: &mut Text<N>, tally: Tally)
+    requires { length page.old + line_bytes ≤ N }
+    ensures put { Put page.old (total_line tally) page.new }
+    ensures few { length page.new ≤ length page.old + line_bytes }
 {
-    let mut end = put::text(page, at, b"total");
-    end = put::next(page, end, tally.offered);
-    end = put::next(page, end, tally.taken_in);
-    end = put::next(page, end, tally.over);
-    end = put::next(page, end, tally.no_room);
-    end = put::next(page, end, tally.sent);
-    end = put::next(page, end, tally.waiting);
-    put::end(page, end)
+    page.put_text(b"total");
+    page.put_next(tally.offered);
+    page.put_next(tally.taken_in);
+    page.put_next(tally.over);
+    page.put_next(tally.no_room);
+    page.put_next(tally.sent);
+    page.put_next(tally.waiting);
+    page.put_end();
 }
 
 // What ends the print-out, where `held` bytes of an unfinished slot are left.
-pub fn put_ending(page: &mut [u8], at: usize, held: usize, tally: Tally) -> usize
-    requires { at + 512 ≤ length page.old }
-    ensures { Put page.old at (end_text held tally) page.new result × (result ≤ at + 512) }
+pub fn put_ending<const N: usize>(page: &mut Text<N>, held: usize, tally: Tally)
+    requires { length page.old + 512 ≤ N }
+    ensures put { Put page.old (end_text held tally) page.new }
+    ensures few { length page.new ≤ length page.old + 512 }
 {
-    if held == 0 {
-        return put_total(page, at, tally);
+    if held != 0 {
+        page.put_text(b"cut\n");
     }
-    let end = put::text(page, at, b"cut\n");
-    put_total(page, end, tally)
+    put_total(page, tally);
 }

@@ -10,28 +10,18 @@ mod input;
 mod lines;
 mod slots;
 
-use console::input::Got;
-use console::output::{Filled, PAGE_BYTES};
-use console::{arguments, failure, output};
-use first::First;
-use layout::RUN_NUMBERS;
+use console::{arguments, failure};
+use refusal::Refusal;
+use slots::Printout;
 
-// The print-out of a sheet and the slots after it.
-fn run_stream(rt: HostRuntime, bytes: &[u8]) {
-    let mut run = [0u32; RUN_NUMBERS];
-    let mut page = [0u8; PAGE_BYTES];
-    let first = first::begin(bytes, &mut run, &mut page);
-    match first {
-        First::Running(used, count) => {
-            let refusal = slots::run_slots(rt, &mut run, count, &mut page, used);
-            if refusal != 0 {
-                reasons::tell(&mut rt.stderr(), bytes, refusal, 0);
-            }
-        }
-        First::Refused(used, number, place) => {
-            let filled = Filled { used, lost: false };
-            output::write_out(&rt, &mut rt.stdout(), &mut rt.stderr(), &page, filled);
-            reasons::tell(&mut rt.stderr(), bytes, number, place);
+// Prints the lines of a sheet and the slots after it. The answer is the refusal of the sheet or of a slot, if there was one.
+fn run_stream(rt: HostRuntime, bytes: &[u8]) -> Result<(), Refusal> {
+    let mut printout = Printout::new(rt);
+    match first::begin(bytes, &mut printout.run, &mut printout.page.text) {
+        Ok(count) => printout.run_slots(count),
+        Err(refusal) => {
+            printout.write_out();
+            Err(refusal)
         }
     }
 }
@@ -47,10 +37,13 @@ fn main(rt: HostRuntime) {
         return;
     }
     let mut bytes = [0u8; input::SHEET_BYTES];
-    let got = input::read_sheet(rt, &mut bytes);
-    match got {
-        Got::Bytes(n) => run_stream(rt, &bytes[..n]),
-        Got::End => {}
-        Got::Failed(error) => failure::tell(&mut rt.stderr(), b"standard input", &error),
+    match input::read_sheet(rt, &mut bytes) {
+        Ok(n) => {
+            let sheet = &bytes[..n];
+            if let Err(refusal) = run_stream(rt, sheet) {
+                reasons::tell(&mut rt.stderr(), sheet, refusal);
+            }
+        }
+        Err(error) => failure::tell(&mut rt.stderr(), b"standard input", &error),
     }
 }

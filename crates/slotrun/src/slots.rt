@@ -1,293 +1,174 @@
 // The slots of the stream, in blocks: each slot is run, and the packets that it sends are printed.
-ghost use Rattle.std.specs.Prelude.{◌≡◌, ◌+◌, ◌<◌, ◌≤◌, length};
+ghost use Rattle.std.specs.Prelude.{◌≡◌, List, [], ℕ, ◌+◌, ◌<◌, ◌≤◌, length};
+ghost use Rattle.std.specs.declared.result.Result.{Result};
 ghost use Rattle.slotrun.specs.Text.{from_zero};
+ghost use Rattle.slotrun.specs.declared.slots.Over.{Over};
 ghost use Rattle.slotrun.specs.Shows.{slot_bytes, Shows};
-ghost use Rattle.slotrun.specs.Turns.{Ready, Goes};
+ghost use Rattle.slotrun.specs.Turns.{Goes, HandsOn};
 
-use crate::input::BLOCK_BYTES;
-use crate::lines::NOTES;
-use crate::{input, lines};
-use console::input::Got;
-use console::output::Filled;
-use console::{failure, output, put};
+use crate::input::Block;
+use crate::lines::{self, NOTES};
+use console::failure;
+use console::output::{PAGE_BYTES, Page};
 use layout::{DONE_AT, RUN_NUMBERS};
-use run::Answer;
-use run::tally::Tally;
+use refusal::Refusal;
+use run::tally::{NO_PACKETS, Tally};
 
 // Every read brings a byte at least, and a run's 1,000,000 slots and one more, which is refused, have no more than these.
 const MOST_READS: usize = 16000016;
 
-// A slot has at most sixteen sessions, and three numbers are told of each.
+// A slot has at most sixteen sessions, and three numbers are told of each. They stand in a fixed array, the form that `slot` takes.
 const OUTCOMES: usize = 48;
 
 // The lines of a slot take no more than this: 64 lines, or a refusal.
 const SLOT_BYTES: usize = 16384;
 
-// What a slot came to: where its text ends in the page, the tally, and the number of its refusal, or 0.
+// Why a run is over: of an Option, none would have to say that it ended.
 #[derive(Clone, Copy)]
-pub struct Printed {
-    pub end: usize,
-    pub tally: Tally,
-    pub refusal: u32,
+pub enum Over {
+    // A slot was refused.
+    Refused(Refusal),
+    // The input ended or failed, or text was lost.
+    Ended,
 }
 
-// How far the page is filled, the tally, and whether the run is over because a slot was refused, with that refusal's number, or text was lost.
-#[derive(Clone, Copy)]
-pub struct Progress {
-    pub filled: Filled,
-    pub tally: Tally,
-    pub over: bool,
-    pub refusal: u32,
+// A run with its tally, and the page in which its print-out waits.
+#[derive(Drop)]
+pub struct Printout {
+    rt: HostRuntime,
+    pub run: [u32; RUN_NUMBERS],
+    tally: Tally,
+    pub page: Page<PAGE_BYTES>,
 }
 
-// How far a run is, and how many bytes of an unfinished slot the block holds.
-#[derive(Clone, Copy)]
-pub struct Step {
-    pub progress: Progress,
-    pub held: usize,
-}
+impl Printout {
+    // Nothing done yet.
+    pub fn new(rt: HostRuntime) -> Self
+        ensures { (result.page.text ≡ []) × (result.tally ≡ from_zero) }
+    {
+        Printout {
+            rt,
+            run: [0; RUN_NUMBERS],
+            tally: NO_PACKETS,
+            page: Page::new(),
+        }
+    }
 
-// What a turn leads to: a step further, or the end of the run with the number of the refusal that ended it, or 0.
-#[derive(Clone, Copy)]
-pub enum Turn {
-    On(Step),
-    Ended(u32),
-}
+    // Writes what waits in the page.
+    pub fn write_out(&mut self)
+        ensures { self.new.page.text ≡ [] }
+    {
+        let rt = self.rt;
+        self.page.write_out(&rt, &mut rt.stdout(), &mut rt.stderr());
+    }
 
-// Runs a slot, and puts what it sends or its refusal into the page.
-fn run_slot(
-    run: &mut [u32; RUN_NUMBERS],
-    offers: &[u8],
-    before: Tally,
-    page: &mut [u8],
-    at: usize,
-) -> Printed
-    requires { at + slot_bytes ≤ length page.old }
-    ensures { Shows run.old offers.now before page.old at run.new page.new result }
-{
-    let mut outcomes = [0u32; OUTCOMES];
-    let mut notes = [0u32; NOTES];
-    let slotted = run::slot_by_value(run, offers, &mut outcomes, &mut notes, before);
-    let tally = slotted.tally;
-    let answer = slotted.answer;
-    match answer {
-        Answer::Sent(sent) => {
-            let end = lines::put_packets(page, at, run[DONE_AT], &notes, sent);
-            Printed {
-                end,
-                tally,
-                refusal: 0,
+    // Runs a slot, and puts what it sends or its refusal into the page.
+    fn put_slot(&mut self, offers: &[u8]) -> Result<(), Over>
+        requires { length self.old.page.text + slot_bytes ≤ 65536 }
+        ensures { Shows self.old.run offers.now self.old.tally self.old.page.text self.new.run self.new.tally self.new.page.text result }
+    {
+        let mut outcomes = [0u32; OUTCOMES];
+        let mut notes = [0u32; NOTES];
+        let slotted = run::slot_by_value(
+            &mut self.run,
+            offers,
+            &mut outcomes,
+            &mut notes,
+            self.tally,
+        );
+        self.tally = slotted.tally;
+        match slotted.answer {
+            Ok(sent) => {
+                let slot = self.run[DONE_AT];
+                lines::put_packets(&mut self.page.text, slot, &notes, sent);
+                Ok(())
+            }
+            Err(refusal) => {
+                self.page.text.put_refused(refusal.number(), refusal.place);
+                Err(Over::Refused(refusal))
             }
         }
-        Answer::Refused(number, place) => {
-            let end = put::refused(page, at, number, place);
-            Printed {
-                end,
-                tally,
-                refusal: number,
+    }
+
+    // Runs a slot and prints what it comes to; the page then has room for the next.
+    fn run_slot(&mut self, offers: &[u8]) -> Result<(), Over>
+        requires { length self.old.page.text + slot_bytes ≤ 65536 }
+        ensures room { length self.new.page.text + slot_bytes ≤ 65536 }
+        ensures shows { (text : List ℕ) × (ended : Result Unit Over) × Shows self.old.run offers.now self.old.tally self.old.page.text self.new.run self.new.tally text ended × HandsOn ended result }
+    {
+        let rt = self.rt;
+        let done = self.put_slot(offers);
+        self.page
+            .make_room(&rt, &mut rt.stdout(), &mut rt.stderr(), SLOT_BYTES);
+        done?;
+        if self.page.lost {
+            return Err(Over::Ended);
+        }
+        Ok(())
+    }
+
+    // Runs the whole slots of a block.
+    fn run_block(&mut self, block: &Block) -> Result<(), Over>
+        requires { length self.old.page.text + slot_bytes ≤ 65536 }
+        ensures { length self.new.page.text + slot_bytes ≤ 65536 }
+    {
+        for offers in block.slots() {
+            self.run_slot(offers)?;
+        }
+        Ok(())
+    }
+
+    // Prints the end, where so many bytes of an unfinished slot are left, and with it all that waits in the page.
+    fn print_end(&mut self, held: usize)
+        requires { length self.old.page.text + 512 ≤ 65536 }
+    {
+        lines::put_ending(&mut self.page.text, held, self.tally);
+        self.write_out();
+    }
+
+    // Writes what is ready, waits for input, and runs the slots that come.
+    fn take_turn(&mut self, block: &mut Block) -> Result<(), Over>
+        requires { block.old.have < block.old.count }
+        ensures { Goes block.new.count 65536 block.new.have (length self.new.page.text) result }
+    {
+        let rt = self.rt;
+        self.write_out();
+        if self.page.lost {
+            return Err(Over::Ended);
+        }
+        match block.read(rt) {
+            Ok(0) => {
+                self.print_end(block.have());
+                Err(Over::Ended)
+            }
+            Ok(_) => {
+                let ran = self.run_block(block);
+                if ran.is_err() {
+                    self.print_end(0);
+                }
+                block.keep_rest();
+                ran
+            }
+            Err(error) => {
+                failure::tell(&mut rt.stderr(), b"standard input", &error);
+                Err(Over::Ended)
             }
         }
     }
-}
 
-// How far a run is after a slot; the page then has room for the next.
-fn after_slot(rt: HostRuntime, page: &[u8], printed: Printed, lost: bool) -> Progress
-    requires { (printed.end ≤ length page.now) × (slot_bytes ≤ length page.now) }
-    ensures { (result.filled.used + slot_bytes ≤ length page.now) × (result.tally ≡ printed.tally) × (result.refusal ≡ printed.refusal) }
-{
-    let text = Filled {
-        used: printed.end,
-        lost,
-    };
-    let filled = output::make_room(
-        &rt,
-        &mut rt.stdout(),
-        &mut rt.stderr(),
-        page,
-        text,
-        SLOT_BYTES,
-    );
-    let tally = printed.tally;
-    let refusal = printed.refusal;
-    if refusal != 0 {
-        return Progress {
-            filled,
-            tally,
-            over: true,
-            refusal,
-        };
-    }
-    Progress {
-        filled,
-        tally,
-        over: filled.lost,
-        refusal,
-    }
-}
-
-// The whole slots of a block.
-fn run_block(
-    rt: HostRuntime,
-    run: &mut [u32; RUN_NUMBERS],
-    count: usize,
-    block: &[u8],
-    page: &mut [u8],
-    before: Progress,
-) -> Progress
-    requires { (1 ≤ count) × (before.filled.used + slot_bytes ≤ length page.old) }
-    ensures { result.filled.used + slot_bytes ≤ length page.old }
-{
-    let mut p = before;
-    let mut at: usize = 0;
-    while count <= block.len() - at {
-        let end = at + count;
-        let printed = run_slot(run, &block[at..end], p.tally, page, p.filled.used);
-        p = after_slot(rt, page, printed, p.filled.lost);
-        if p.over {
-            return p;
-        }
-        at = end;
-    }
-    p
-}
-
-// The whole slots among the first n bytes of the block; the bytes of an unfinished one are kept at its front.
-fn run_some(
-    rt: HostRuntime,
-    run: &mut [u32; RUN_NUMBERS],
-    count: usize,
-    block: &mut [u8],
-    n: usize,
-    page: &mut [u8],
-    before: Progress,
-) -> Step
-    requires { (1 ≤ count) × (n ≤ length block.old) × (before.filled.used + slot_bytes ≤ length page.old) }
-    ensures { (result.held < count) × (result.progress.filled.used + slot_bytes ≤ length page.old) }
-{
-    let progress = run_block(rt, run, count, &block[..n], page, before);
-    let held = input::keep_rest(block, n - n % count, n);
-    Step { progress, held }
-}
-
-// The run so far, with nothing left in the page.
-fn written(rt: HostRuntime, page: &[u8], p: Progress) -> Progress
-    requires { p.filled.used ≤ length page.now }
-    ensures { result.filled.used ≡ 0 }
-{
-    let filled = output::write_out(&rt, &mut rt.stdout(), &mut rt.stderr(), page, p.filled);
-    let tally = p.tally;
-    Progress {
-        filled,
-        tally,
-        over: filled.lost,
-        refusal: p.refusal,
-    }
-}
-
-// The end of the print-out, where the block holds so many bytes of an unfinished slot, and with it all that waits in the page.
-fn print_end(rt: HostRuntime, page: &mut [u8], p: Progress, held: usize)
-    requires { p.filled.used + 512 ≤ length page.old }
-{
-    let used = lines::put_ending(page, p.filled.used, held, p.tally);
-    let filled = Filled {
-        used,
-        lost: p.filled.lost,
-    };
-    output::write_out(&rt, &mut rt.stdout(), &mut rt.stderr(), page, filled);
-}
-
-// Goes on after a step, or ends the run where it is over.
-fn go_on(rt: HostRuntime, page: &mut [u8], step: Step, count: usize) -> Turn
-    requires { (step.held < count) × (step.progress.filled.used + slot_bytes ≤ length page.old) }
-    ensures { Goes count step.progress.filled.used result }
-{
-    let p = step.progress;
-    if p.over {
-        print_end(rt, page, p, 0);
-        return Turn::Ended(p.refusal);
-    }
-    Turn::On(step)
-}
-
-// Writes what is ready, waits for input, and runs the slots that come.
-fn take_turn(
-    rt: HostRuntime,
-    run: &mut [u32; RUN_NUMBERS],
-    count: usize,
-    block: &mut [u8],
-    page: &mut [u8],
-    step: Step,
-) -> Turn
-    requires { (count ≤ 16) × (length block.old ≡ 65536) × (slot_bytes ≤ length page.old) × Ready count (length page.old) step }
-    ensures { Goes count (length page.old) result }
-{
-    let p = written(rt, page, step.progress);
-    if p.over {
-        return Turn::Ended(0);
-    }
-    let held = step.held;
-    let got = input::read_block(rt, block, held, count);
-    match got {
-        Got::Bytes(n) => {
-            let next = run_some(rt, run, count, block, n, page, p);
-            go_on(rt, page, next, count)
-        }
-        Got::End => {
-            print_end(rt, page, p, held);
-            Turn::Ended(0)
-        }
-        Got::Failed(error) => {
-            failure::tell(&mut rt.stderr(), b"standard input", &error);
-            Turn::Ended(0)
-        }
-    }
-}
-
-// Nothing done yet, after a first line.
-fn start(used: usize) -> Step
-    ensures { (result.progress.filled.used ≡ used) × (result.held ≡ 0) × (result.progress.tally ≡ from_zero) }
-{
-    let progress = Progress {
-        filled: Filled { used, lost: false },
-        tally: Tally {
-            offered: 0,
-            taken_in: 0,
-            over: 0,
-            no_room: 0,
-            sent: 0,
-            waiting: 0,
-        },
-        over: false,
-        refusal: 0,
-    };
-    Step { progress, held: 0 }
-}
-
-// Runs the slots of standard input to its end, and prints what they send and the total. The answer is the number of the refusal that ended the
-// run, or 0.
-pub fn run_slots(
-    rt: HostRuntime,
-    run: &mut [u32; RUN_NUMBERS],
-    count: usize,
-    page: &mut [u8],
-    used: usize,
-) -> u32
-    requires { (1 ≤ count) × (count ≤ 16) × (slot_bytes ≤ length page.old) × (used ≤ length page.old) }
-{
-    let mut block = [0u8; BLOCK_BYTES];
-    let mut step = start(used);
-    let mut reads: usize = 0;
-    while reads < MOST_READS {
-        let turn = take_turn(rt, run, count, &mut block, page, step);
-        match turn {
-            Turn::On(next) => {
-                step = next;
-            }
-            Turn::Ended(refusal) => {
-                return refusal;
+    // Runs the slots of standard input to its end, for a sheet of so many sessions, and prints what they send and the total. The answer is the
+    // refusal that ended the run, if one did.
+    pub fn run_slots(&mut self, count: usize) -> Result<(), Refusal>
+        requires { (1 ≤ count) × (count ≤ 16) }
+    {
+        let mut block = Block::new(count);
+        for _ in 0..MOST_READS {
+            match self.take_turn(&mut block) {
+                Ok(()) => {}
+                Err(Over::Refused(refusal)) => return Err(refusal),
+                Err(Over::Ended) => return Ok(()),
             }
         }
-        reads += 1;
+        Ok(())
     }
-    0
 }

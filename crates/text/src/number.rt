@@ -1,93 +1,40 @@
 // Decimal numbers written as text.
-ghost use Rattle.std.specs.Prelude.{◌≤◌, length};
+ghost use Rattle.std.specs.Prelude.{[], IfSome};
+ghost use Rattle.text.specs.Numbers.{Next, Number, Numbers};
 
-// A number of this much or more takes no further digit: 32 bits do not hold it.
-const TOO_LARGE: usize = 4294967296;
+use crate::lines::cut_before;
+use std::str;
 
-// A number, and where it ends in its line.
-#[derive(Clone, Copy)]
-pub struct Number {
-    pub value: usize,
-    pub end: usize,
-}
-
-// Up to six numbers of 32 bits, how many they are, and where the last one ends in its line.
-#[derive(Clone, Copy)]
-pub struct Numbers {
-    pub values: [u32; 6],
-    pub count: usize,
-    pub end: usize,
-}
-
-// The value of a hex digit, or 16.
-pub fn digit(b: u8) -> u8
-    ensures { result ≤ 16 }
+// The number that a text begins with, and what follows it. Of one that 64 bits do not hold, as much as they do.
+pub fn first_number(text: &[u8]) -> Option<(u64, &[u8])>
+    ensures { IfSome result (λ found. Number text.now found.0 found.1.now) }
 {
-    match b {
-        b'0'..=b'9' => b - b'0',
-        b'a'..=b'f' => b - b'a' + 10,
-        b'A'..=b'F' => b - b'A' + 10,
-        _ => 16,
+    let (digits, rest) = cut_before(text, |b| !b.is_ascii_digit());
+    if digits.is_empty() {
+        return None;
     }
+    let digits = str::from_utf8(digits).ok()?;
+    Some((digits.parse().unwrap_or(u64::MAX), rest))
 }
 
-// The decimal number at `from`; 0 where there is none.
-pub fn number_at(line: &[u8], from: usize) -> Number
-    requires { from ≤ length line.now }
-    ensures { (from ≤ result.end) × (result.end ≤ length line.now) }
+// The next number of a line, with spaces before it, and what follows it; none where 32 bits do not hold it.
+pub fn next_number(line: &[u8]) -> Option<(u32, &[u8])>
+    ensures { IfSome result (λ found. Next line.now found.0 found.1.now) }
 {
-    let mut value: usize = 0;
-    let mut end = from;
-    while end < line.len() {
-        let d = digit(line[end]);
-        if d > 9 {
-            break;
-        }
-        if value < TOO_LARGE {
-            value = 10 * value + d as usize;
-        }
-        end += 1;
-    }
-    Number { value, end }
+    let (_, word) = cut_before(line, |b| *b != b' ');
+    let (number, rest) = first_number(word)?;
+    let number = u32::try_from(number).ok()?;
+    Some((number, rest))
 }
 
-// The first byte from `from` on that is no space.
-fn past_spaces(line: &[u8], from: usize) -> usize
-    requires { from ≤ length line.now }
-    ensures { (from ≤ result) × (result ≤ length line.now) }
+// The N numbers of a line that has nothing else.
+pub fn numbers<const N: usize>(line: &[u8]) -> Option<[u32; N]>
+    ensures { IfSome result (λ values. Numbers line.now values []) }
 {
-    let mut at = from;
-    while at < line.len() {
-        if line[at] != b' ' {
-            return at;
-        }
-        at += 1;
+    let mut values = [0u32; N];
+    let mut rest = line;
+    for value in values.iter_mut() {
+        (*value, rest) = next_number(rest)?;
     }
-    at
-}
-
-// The numbers that a line starts with, no more than `most`, with spaces before each; one that 32 bits do not hold ends them.
-pub fn first_numbers(line: &[u8], most: usize) -> Numbers
-    requires { most ≤ 6 }
-    ensures { result.end ≤ length line.now }
-{
-    let mut values = [0u32; 6];
-    let mut count: usize = 0;
-    let mut end: usize = 0;
-    while count < most {
-        let from = past_spaces(line, end);
-        let n = number_at(line, from);
-        let value = n.value;
-        let to = n.end;
-        if to == from {
-            return Numbers { values, count, end };
-        }
-        if TOO_LARGE <= value {
-            return Numbers { values, count, end };
-        }
-        values[count] = value as u32;
-        count += 1;
-        end = to;
-    }
-    Numbers { values, count, end }
+    if rest.is_empty() { Some(values) } else { None }
 }

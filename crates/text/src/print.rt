@@ -1,23 +1,33 @@
-// The printing of answers to standard output. A write that fails is passed over.
-use std::io::Write;
+// The printing of answers: what a writer whose contents are known then holds.
+ghost use Rattle.std.specs.Prelude.{[], ◌∷◌, ◌++◌, OnOk, IfSome, codes};
+ghost use Rattle.std.specs.Io.KnownBytes.{Appends};
+ghost use Rattle.text.specs.Printed.{spaced};
 
-// A space, and a number after it.
-pub fn next<W: Write>(to: &mut W, n: u32) {
-    let _ = write!(to, " {n}");
-}
+use std::fmt::Display;
+use std::io::{Result, Write};
 
-pub fn refusal<W: Write>(to: &mut W, number: u32, place: u32) {
-    let _ = to.write_all(b"refused");
-    next(to, number);
-    next(to, place);
+// Each value, with a space before it.
+#[tactic(auto, using(crate::proofs::Printed::spaced_more))]
+pub fn all<W: Write, T: Display + Copy + Drop>(to: &mut W, values: &[T]) -> Result<()>
+    ensures { OnOk result (IfSome (spaced T.output values.now) (Appends (W.contents to.old) (W.contents to.new))) }
+{
+    for value in values {
+        write!(to, " {value}")?;
+    }
+    Ok(())
 }
 
 // A line that is a comment is written as it stands.
-pub fn comment<W: Write>(to: &mut W, line: &[u8]) {
-    let _ = to.write_all(line);
-    let _ = to.write_all(b"\n");
+pub fn write_comment<W: Write>(to: &mut W, line: &[u8]) -> Result<()>
+    ensures { OnOk result (Appends (W.contents to.old) (W.contents to.new) (line.now ++ (10 ∷ []))) }
+{
+    to.write_all(line)?;
+    to.write_all(b"\n")
 }
 
-pub fn unclear<W: Write>(to: &mut W) {
-    let _ = to.write_all(b"unclear\n");
+// A line that means nothing.
+pub fn write_unclear<W: Write>(to: &mut W) -> Result<()>
+    ensures { OnOk result (Appends (W.contents to.old) (W.contents to.new) (codes "unclear\n")) }
+{
+    to.write_all(b"unclear\n")
 }

@@ -1,5 +1,5 @@
 -- Laws of specs/Figured.antt. What the program keeps while it works out the figures, so that each step of its loops is one lemma: the largest so far within a session, and the figures of the sessions done so far. Assumes nothing.
-use Rattle.std.specs.Prelude.{◌≡◌, ◌⊎◌, List, ℕ, zero, suc, ◌+◌, ◌-◌, ◌/◌, ◌≤◌, ◌<◌, max, get_or, set}
+use Rattle.std.specs.Prelude.{◌≡◌, ◌⊎◌, List, ℕ, zero, suc, ◌+◌, ◌-◌, ◌≤◌, ◌<◌, max, get_or, set}
 use Rattle.std.proofs.Common.{sym, ◌∙◌, inl, inr, arith, lt-ltb, le-ltb, length-set, get_or-set_same, get_or-set_other}
 use Rattle.std.proofs.Math.Path.{ap}
 use Rattle.std.proofs.Math.Decide.{ℕ_discrete}
@@ -11,21 +11,24 @@ use Rattle.curve.proofs.CurveLaws.{at_table}
 use Rattle.curve.specs.Rises.{IsCurve}
 use Rattle.curve.specs.Delay.{slot, delay}
 use Rattle.curve.specs.declared.Slots.{Slots}
+use Rattle.refusal.specs.Numbers.{number_of}
+use Rattle.refusal.specs.declared.Refusal.{Refusal as Refused}
 use Rattle.sheet.specs.Limits.{most_sessions}
 use Rattle.sheet.specs.Refusal.{none, refused}
-use Rattle.sheet.specs.Sheet.{session, session_count, WellMadeCurve}
-use Rattle.sheet.specs.Bytes.{count_of, period_of, session_of, sheet_of}
+use Rattle.sheet.specs.Sheet.{Session, session, session_count, WellMadeCurve}
+use Rattle.sheet.specs.Bytes.{count_of, period_of, sheet_of}
 use Rattle.sheet.specs.Reading.{reading}
 use Rattle.sheet.proofs.StartsLaws.{count-is}
-use Rattle.sheet.proofs.MakesLaws.{envelope-length}
-use Rattle.sheet.specs.Told.{table_in}
-use Rattle.sheet.proofs.ToldLaws.{service_in}
-use Rattle.sheet.specs.declared.Session.{Session}
+use Rattle.sheet.specs.Ready.{Ready}
+use Rattle.sheet.specs.Told.{SessionIn}
+use Rattle.sheet.proofs.ToldLaws.{envelope_in}
+use Rattle.sheet.specs.declared.fields.Session.{Session as SessionAt}
+use Rattle.curve.specs.Drawn.{drawn}
+use Rattle.verdict.specs.Ready.{Drawn}
 use Rattle.verdict.specs.Figure.{lag, largest, figure}
 use Rattle.verdict.proofs.FigureLaws.{largest-zero, largest-suc, lag-delay}
-use Rattle.verdict.specs.Ready.{Ready, Drawn, on_from}
-use Rattle.verdict.proofs.ReadyLaws.{envelope-at, session-there}
-use Rattle.verdict.specs.Verdict.{figure_of, figure_in, Figures}
+use Rattle.verdict.specs.Verdict.{figure_of, figure_in, Figures, Judges}
+use Rattle.verdict.specs.declared.Verdict.TheVariants.{Unreadable}
 use Rattle.verdict.specs.Figured.{Figured, figure_to, Done, no_slots, no_figures}
 
 -- a curve's table values are small
@@ -60,34 +63,26 @@ module _ (P : ℕ) (b S : Curve) where
       f.is ∙ ap (largest (λ i. lag P S (at P b (suc i)) (suc i))) e
 
 -- a session taken apart: what its parts promise, and how many positions its envelope has
-module _ (P : ℕ) (rest : List ℕ) (s : Session) (g : Drawn P rest s) where
-  pub service-curve : IsCurve P (table_in rest s.service)
-  service-curve = rw (service_in rest s g.lies) g.made.service.curve
+module _ (P : ℕ) (s : SessionAt) (g : Drawn P s) where
+  pub service-curve : IsCurve P (drawn s.service)
+  service-curve = g.service.curve
 
   pub service-promises : 1 ≤ s.service.rate.0
-  service-promises = rw (ap (λ F. F.rate) (service_in rest s g.lies)) g.made.promises
+  service-promises = g.promises
 
-  -- the envelope's positions, as the program counts them
-  pub positions : (s.envelope.to - s.envelope.from) / 2 ≡ length (session_of rest).envelope.table
-  positions =
-      omega (arith, g.lies.envelope-from, g.lies.envelope-to, envelope-length rest g.all)
-
-  pub some-positions : s.envelope.from ≤ s.envelope.to
-  some-positions = omega (arith, g.lies.envelope-from, g.lies.envelope-to)
-
-  pub few-positions : (s.envelope.to - s.envelope.from) / 2 ≤ 64
-  few-positions = omega (arith, positions, g.made.envelope.short)
+  pub few-positions : length (drawn s.envelope).table ≤ 64
+  few-positions = g.envelope.short
 
   -- what the look-ups answer at position x
-  asked : (x q : ℕ) → q ≡ at P (table_in rest s.envelope) x → q ≡ at P (session_of rest).envelope x
-  asked x q e = e ∙ envelope-at P rest s g x
+  pub answered : (x q m : ℕ) → q ≡ at P (drawn s.envelope) x → delay P (drawn s.service) q ≡ slot m → delay P (drawn s.service) (at P (drawn s.envelope) x) ≡ slot m
+  answered x q m e d = ap (delay P (drawn s.service)) (sym e) ∙ d
 
-  pub answered : (x q m : ℕ) → q ≡ at P (table_in rest s.envelope) x → delay P (table_in rest s.service) q ≡ slot m
-      → delay P (session_of rest).service (at P (session_of rest).envelope x) ≡ slot m
-  answered x q m e d = ap (delay P (session_of rest).service) (sym (asked x q e)) ∙ ap (λ F. delay P F q) (sym (service_in rest s g.lies)) ∙ d
+  pub asked-little : (x q : ℕ) → 1 ≤ x → x ≤ length (drawn s.envelope).table → q ≡ at P (drawn s.envelope) x → q ≤ 500
+  asked-little x q h l e = rw e (table-most P (drawn s.envelope) g.envelope x h l)
 
-  pub asked-little : (x q : ℕ) → 1 ≤ x → x ≤ length (session_of rest).envelope.table → q ≡ at P (table_in rest s.envelope) x → q ≤ 500
-  asked-little x q h l e = rw (asked x q e) (table-most P (session_of rest).envelope g.made.envelope x h l)
+-- as many positions as the session's envelope has
+pub positions : (session : Session) (s : SessionAt) → SessionIn session s → length (drawn s.envelope).table ≡ length session.envelope.table
+positions session s lies = ap (λ (F : Curve). length F.table) (envelope_in session s lies)
 
 figure-to : (bytes : List ℕ) (m j : ℕ) → j < m → figure_to bytes m j ≡ figure (period_of bytes) (session (sheet_of bytes) j).envelope (session (sheet_of bytes) j).service
 unfolding figure_to
@@ -145,11 +140,15 @@ pub figures-none : (bytes : List ℕ) (number place : ℕ) → reading bytes ≡
 unfolding figure_in
 figures-none bytes number place e = record { sixteen = sixteen-none; each = λ j. each_none j ∙ ap (λ o. figure_in o bytes j) (sym e) }
 
+-- so such bytes are judged
+pub judges-unread : (bytes : List ℕ) (r : Refused) → reading bytes ≡ refused (number_of r.cause) r.place → Judges bytes (Unreadable r) no_figures
+judges-unread bytes r e = record { says = e; figures_are = figures-none bytes _ _ e }
+
 -- the figure of session i of a sheet that reads
 module _ (bytes starts : List ℕ) (count c P : ℕ) (ready : Ready bytes starts count c P) (i : ℕ) (h : i < count) where
   pub done_next : (figures : List Slots) (r : Slots) → Done bytes i figures
-      → r.0 ≡ figure P (session_of (on_from bytes (get_or starts i 0))).envelope (session_of (on_from bytes (get_or starts i 0))).service
+      → r.0 ≡ figure P (session (sheet_of bytes) i).envelope (session (sheet_of bytes) i).service
       → Done bytes (i + 1) (set figures i r)
   done_next figures r d e =
       done-set bytes i figures r d (omega (arith, ready.count-is)) (omega (arith, ready.made.few, count-is bytes))
-      (e ∙ ap (λ p. figure p (session_of (on_from bytes (get_or starts i 0))).envelope (session_of (on_from bytes (get_or starts i 0))).service) ready.period ∙ ap (λ s. figure (period_of bytes) s.envelope s.service) (session-there bytes starts count c P ready i h))
+      (e ∙ ap (λ p. figure p (session (sheet_of bytes) i).envelope (session (sheet_of bytes) i).service) ready.period)

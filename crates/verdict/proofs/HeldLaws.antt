@@ -4,8 +4,9 @@ use Rattle.std.proofs.Common.{sym, ap, ◌∙◌, arith}
 use Rattle.curve.specs.Curve.{Curve, at}
 use Rattle.sheet.specs.Sheet.{session}
 use Rattle.sheet.specs.Bytes.{session_of, sheet_of}
-use Rattle.verdict.specs.Ready.{Ready, on_from}
-use Rattle.verdict.proofs.ReadyLaws.{curve-most, made_at, session-there}
+use Rattle.sheet.specs.Ready.{Ready, on_from}
+use Rattle.sheet.proofs.ReadyLaws.{made_at, session-there}
+use Rattle.verdict.proofs.ReadyLaws.{curve-most}
 use Rattle.verdict.specs.Share.{better}
 use Rattle.verdict.specs.Window.{row_places, session_places, window_places, Window}
 use Rattle.verdict.specs.Held.{Seen, Held}

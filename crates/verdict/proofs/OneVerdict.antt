@@ -1,12 +1,14 @@
 -- The verdict's contract leaves one answer, and always some: two answers that both meet it for the same bytes are equal, and of any bytes one of the three cases holds. Assumes nothing.
 use Rattle.std.specs.Prelude.{◌≡◌, refl, ◌⊎◌, List, ℕ, ◌≤◌}
 use Rattle.std.proofs.Common.{sym, ap, ◌∙◌, inl, inr, arith, ext_get_or}
+use Rattle.refusal.specs.Numbers.{number_of}
 use Rattle.curve.specs.declared.Slots.{Slots}
 use Rattle.sheet.specs.Refusal.{Refusal, none, refused}
 use Rattle.sheet.specs.Bytes.{sheet_of}
 use Rattle.sheet.specs.Reading.{reading}
 use Rattle.sheet.specs.Makes.{AllBytes}
 use Rattle.sheet.proofs.MakesLaws.{makes}
+use Rattle.sheet.proofs.OneAnswer.{refused-one}
 use Rattle.verdict.specs.Passes.{Passes, Fails}
 use Rattle.verdict.proofs.PassesLaws.{passed-one, failed-one, not_both}
 use Rattle.verdict.proofs.AnswerLaws.{some-answer, fails_by}
@@ -43,13 +45,16 @@ told-one (Passed m t) (Passed n w) e =
 told-one (Failed t) (Failed w) e =
     let et : t.0 ≡ w.0 = cc in
     λ i. Failed (record { 0 = et i })
-told-one (Unreadable n p) (Unreadable k q) e = cc
+told-one (Unreadable r) (Unreadable s) e =
+    let en : number_of r.cause ≡ number_of s.cause = cc in
+    let ep : r.place ≡ s.place = cc in
+    ap Unreadable (refused-one r s en ep)
 told-one (Passed m t) (Failed w) e = absurd (passed-failed _ _ _ e)
-told-one (Passed m t) (Unreadable n p) e = absurd (passed-unreadable _ _ _ _ e)
+told-one (Passed m t) (Unreadable r) e = absurd (passed-unreadable _ _ _ _ e)
 told-one (Failed w) (Passed m t) e = absurd (passed-failed _ _ _ (sym e))
-told-one (Failed w) (Unreadable n p) e = absurd (failed-unreadable _ _ _ e)
-told-one (Unreadable n p) (Passed m t) e = absurd (passed-unreadable _ _ _ _ (sym e))
-told-one (Unreadable n p) (Failed w) e = absurd (failed-unreadable _ _ _ (sym e))
+told-one (Failed w) (Unreadable r) e = absurd (failed-unreadable _ _ _ e)
+told-one (Unreadable r) (Passed m t) e = absurd (passed-unreadable _ _ _ _ (sym e))
+told-one (Unreadable r) (Failed w) e = absurd (failed-unreadable _ _ _ (sym e))
 
 -- bytes that read are not refused
 read-refused : (o : Refusal) (n p : ℕ) → o ≡ none → o ≡ refused n p → ⊥

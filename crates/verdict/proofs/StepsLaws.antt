@@ -1,5 +1,5 @@
 -- Laws of specs/Steps.antt. What the search keeps at each of its three loops, and each step of it as a lemma over plain numbers: the shares tried, the load of the sessions so far, and the walk over slot counts. Assumes nothing.
-use Rattle.std.specs.Prelude.{◌≡◌, List, ◌⊎◌, ℕ, ◌+◌, ◌-◌, ◌*◌, ◌≤◌, ◌<◌, min, length, get_or, set, take}
+use Rattle.std.specs.Prelude.{◌≡◌, Option, Some, None, List, ◌⊎◌, ℕ, ◌+◌, ◌-◌, ◌*◌, ◌≤◌, ◌<◌, min, length, get_or, set, take}
 use Rattle.std.proofs.Common.{sym, ◌∙◌, inl, inr, add-one, length-set, length-take, get_or-set_same, get_or-set_other, get_or-take}
 use Rattle.std.proofs.Math.Path.{ap}
 use Rattle.std.proofs.Math.Nat.{mul-le-mul}
@@ -19,8 +19,10 @@ use Rattle.verdict.proofs.WalkLaws.{lead-none, row-none, kept-none}
 use Rattle.verdict.specs.Verdict.{can_send, Says, passed, failed}
 use Rattle.verdict.specs.Link.{Link, walk_end}
 use Rattle.verdict.proofs.AnswerLaws.{stops, stops-there}
-use Rattle.verdict.specs.Ready.{Ready, on_from}
-use Rattle.verdict.proofs.ReadyLaws.{period-is, capacity-is, sessions_are, some-period, few-slots, few-sessions, made_at, session-there, made-tables}
+use Rattle.curve.specs.declared.Slots.{Slots}
+use Rattle.sheet.specs.Ready.{Ready, on_from}
+use Rattle.sheet.proofs.ReadyLaws.{period-is, capacity-is, sessions_are, some-period, few-slots, few-sessions, made_at, session-there}
+use Rattle.verdict.proofs.ReadyLaws.{made-tables}
 use Rattle.verdict.specs.Share.{better}
 use Rattle.verdict.proofs.ShareLaws.{share_is}
 use Rattle.verdict.specs.Steps.{Shares, part_load, Walking, Found}
@@ -126,8 +128,23 @@ module _ (L C : ℕ → ℕ) where
   lead_as e f g = rw (e, f) g
 
 module _ (L C : ℕ → ℕ) where
-  pub found_none : {failing m w n v : ℕ} → failing ≡ 0 → n ≡ m → v ≡ w → Passes L C m w → Found L C failing n v
-  found_none e f g h = record { none = λ z. rw (f, g) h; some = λ z. absurd (z e) }
+  pub found_none : {failing : Option Slots} {m w n v : ℕ} → failing ≡ None → n ≡ m → v ≡ w → Passes L C m w → Found L C failing n v
+  found_none e f g h = record { none = λ z. rw (f, g) h; some = λ t z. apart t (sym e ∙ z) }
+    where
+      apart : {A : Type 0} (t : Slots) → ◌≡◌ {A = Option Slots} None (Some t) → A
+      apart t q =
+          let z : ◌≡◌ {A = ℕ} 0 1 = cc in
+          absurd (omega arith)
 
-  pub found_some : {failing u m w : ℕ} → failing ≡ u → Fails L C u → Found L C failing m w
-  found_some e h = record { none = λ z. absurd (omega (arith, h.from)); some = λ z. rw e h }
+  pub found_some : {failing : Option Slots} {u : Slots} {m w : ℕ} → failing ≡ Some u → Fails L C u.0 → Found L C failing m w
+  found_some {u = u} e h = record { none = λ z. apart (sym z ∙ e); some = λ t z. same t (sym e ∙ z) }
+    where
+      apart : {A : Type 0} → ◌≡◌ {A = Option Slots} None (Some u) → A
+      apart q =
+          let z : ◌≡◌ {A = ℕ} 0 1 = cc in
+          absurd (omega arith)
+
+      same : (t : Slots) → Some u ≡ Some t → Fails L C t.0
+      same t q =
+          let k : u ≡ t = cc in
+          rw k at h

@@ -1,32 +1,13 @@
--- What the verdict's functions may take for granted once the sheet has been read: where its sessions lie, and that they are well made. Assumes nothing.
-use Rattle.std.specs.Prelude.{◌≡◌, List, ℕ, ◌-◌, ◌≤◌, ◌<◌, length, get_or, take, drop}
-use Rattle.curve.specs.Curve.{at}
-use Rattle.sheet.specs.Limits.{most_sessions, longest_period}
-use Rattle.sheet.specs.Refusal.{none}
-use Rattle.sheet.specs.Sheet.{WellMadeSession, WellMade}
-use Rattle.sheet.specs.Bytes.{capacity_of, period_of, count_of, record_bytes, session_of, sheet_of}
-use Rattle.sheet.specs.Reading.{reading}
-use Rattle.sheet.specs.Starts.{start_of}
-use Rattle.sheet.specs.Told.{SessionIn}
-use Rattle.sheet.specs.declared.Session.{Session}
+-- What the verdict's functions may take for granted of a session taken apart. Assumes nothing.
+use Rattle.std.specs.Prelude.{ℕ, ◌≤◌}
+use Rattle.curve.specs.Drawn.{drawn}
+use Rattle.sheet.specs.Limits.{longest_period}
+use Rattle.sheet.specs.Sheet.{WellMadeCurve}
+use Rattle.sheet.specs.declared.fields.Session.{Session}
 
--- the sheet reads, and these are its numbers and its sessions' starts
-pub record Ready (bytes starts : List ℕ) (count c P : ℕ) : Type 0 where
-  pub reads : reading bytes ≡ none
-  pub made : WellMade (sheet_of bytes)
-  pub count-is : count ≡ count_of bytes
-  pub capacity : c ≡ capacity_of bytes
-  pub period : P ≡ period_of bytes
-  pub sixteen : length starts ≡ most_sessions
-  pub each : (i : ℕ) → i < count → get_or starts i 0 ≡ start_of bytes i
-
--- a session whose bytes start with `rest`, taken apart, is well made under the period P
-pub record Drawn (P : ℕ) (rest : List ℕ) (s : Session) : Type 0 where
-  pub lies : SessionIn rest s
-  pub all : record_bytes rest ≤ length rest
-  pub made : WellMadeSession P (session_of rest)
+-- its curves are well made under the period P
+pub record Drawn (P : ℕ) (s : Session) : Type 0 where
+  pub service : WellMadeCurve P (drawn s.service)
+  pub envelope : WellMadeCurve P (drawn s.envelope)
+  pub promises : 1 ≤ s.service.rate.0
   pub few : P ≤ longest_period
-
--- the bytes from a place on, as a slice's part has them
-abbrev pub on_from : List ℕ → ℕ → List ℕ
-on_from bytes at = take (length bytes - at) (drop at bytes)

@@ -1,5 +1,6 @@
 -- What the search keeps at each of its three loops: the shares tried, the load of the sessions so far, and the walk over slot counts. Assumes nothing.
-use Rattle.std.specs.Prelude.{◌≡◌, List, ℕ, ◌+◌, ◌≤◌, ◌<◌, length, get_or}
+use Rattle.std.specs.Prelude.{◌≡◌, Option, Some, None, List, ℕ, ◌+◌, ◌≤◌, ◌<◌, length, get_or}
+use Rattle.curve.specs.declared.Slots.{Slots}
 use Rattle.sheet.specs.Sheet.{session}
 use Rattle.sheet.specs.Bytes.{session_of, sheet_of}
 use Rattle.verdict.specs.Load.{load}
@@ -27,6 +28,6 @@ pub record Walking (L C : ℕ → ℕ) (R P t : ℕ) (loads : List ℕ) (slack f
   pub kept : Kept L t loads
 
 -- where the walk's ways out meet: no failing slot count, or the first
-pub record Found (L C : ℕ → ℕ) (failing m w : ℕ) : Type 0 where
-  pub none : failing ≡ 0 → Passes L C m w
-  pub some : (failing ≡ 0 → ⊥) → Fails L C failing
+pub record Found (L C : ℕ → ℕ) (failing : Option Slots) (m w : ℕ) : Type 0 where
+  pub none : failing ≡ None → Passes L C m w
+  pub some : (t : Slots) → failing ≡ Some t → Fails L C t.0

@@ -1,5 +1,6 @@
 -- The verdict on a sheet in document 01's words: its load against c·t at every positive slot count, the three cases, and the delay figures beside them. Assumes nothing.
 use Rattle.std.specs.Prelude.{◌≡◌, true, false, List, ℕ, ◌*◌, ltb, length, get_or}
+use Rattle.refusal.specs.Numbers.{number_of}
 use Rattle.curve.specs.declared.Slots.{Slots}
 use Rattle.sheet.specs.Limits.{most_sessions}
 use Rattle.sheet.specs.Refusal.{Refusal, none, refused}
@@ -34,7 +35,7 @@ pub data Case : Type 0 where
 abbrev pub told : Verdict → Case
 told (Passed slack t) = passed slack.0 t.0
 told (Failed t) = failed t.0
-told (Unreadable number place) = unreadable number place
+told (Unreadable r) = unreadable (number_of r.cause) r.place
 
 -- VERDICT: what each case says of the bytes, by the load against c·t. No slot count bounds it
 abbrev pub Says : List ℕ → Case → Type 0

@@ -4,18 +4,12 @@
 ghost use Rattle.std.specs.Prelude.{◌≡◌, ◌+◌, ◌<◌, length};
 ghost use Rattle.words.specs.Words.{byte_at, word_at, long_at};
 
-fn wide(x: u8) -> u32
-    ensures { (result ≡ x) × (result < 256) }
-{
-    x as u32
-}
-
 // The byte at a place.
 pub fn byte(bytes: &[u8], at: usize) -> u32
     requires { at < length bytes.now }
     ensures { (result ≡ byte_at bytes.now at) × (result < 256) }
 {
-    wide(bytes[at])
+    u32::from(bytes[at])
 }
 
 // The number of two bytes at a place.

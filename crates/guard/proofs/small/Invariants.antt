@@ -1,11 +1,7 @@
 -- The flag tells, number after number, whether each is at most the limit so far. Assumes nothing.
-use Prim.Native.Nat.{◌-◌, ◌≤◌}
+use Rattle.std.specs.Prelude.{ℕ, ◌≤◌, ◌<◌, slice_index}
 use Rattle.guard.specs.Tells.{Tells}
-use Rattle.guard.specs.Test.{Small}
 use Rattle.guard.proofs.small.Given as goal
 
-abbrev pub invariant-loop-i : goal.invariant-loop-i
-invariant-loop-i l = (l.i ≤ l.n) × Tells l.all (Small l.blk l.at l.i l.most)
-
-abbrev pub decreases-loop-i : goal.decreases-loop-i
-decreases-loop-i l = l.n - l.i
+abbrev pub invariant-loop-number : goal.invariant-loop-number
+invariant-loop-number l = Tells l.all ((i : ℕ) → i < l.number-index → slice_index l.numbers i ≤ l.most)

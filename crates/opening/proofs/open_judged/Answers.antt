@@ -1,17 +1,12 @@
--- Each answer is that of the verdict's case. Assumes nothing.
-use Rattle.std.proofs.Common.{ap, ◌∙◌, List, ◌++◌, ℕ, drop}
-use Rattle.sheet.specs.Bytes.{sheet_of}
-use Rattle.verdict.specs.Verdict.{passed}
-use Rattle.layout.specs.Layout.{run_numbers}
-use Rattle.history.specs.Opened.{opened-run}
-use Rattle.opening.specs.Open.{told}
+-- What does not read is refused as the reader says. Assumes nothing.
+use Rattle.std.proofs.Common.{refl}
+use Rattle.sheet.proofs.TellsLaws.{refused_tells}
+use Rattle.verdict.specs.Verdict.{unreadable}
+use Rattle.verdict.proofs.FiguredLaws.{judges-unread}
 use Rattle.opening.proofs.OpenLaws.{opens_by}
 use Rattle.opening.proofs.open_judged.Goals as goal
 
-pub returns-in-Passed : goal.returns-in-Passed
-returns-in-Passed c = (
-  opens_by _ _ _ _ (passed _ _) c.requires (rw c.in-Passed.is at c.judge_read-judged.ensures.0.says)
-      (ap told c.fill-opening.ensures.0)
-      (c.fill-opening.ensures.1 ∙ ap (λ (l : List ℕ). l ++ drop run_numbers c.args.run.now) (opened-run (sheet_of c.args.bytes.now))),
-  c.judge_read-judged.ensures.0,
-)
+pub returns-in-Err : goal.returns-in-Err
+returns-in-Err c =
+    let e = refused_tells c.args.bytes.now _ c.in-Err.ensures in
+    (opens_by _ _ _ _ (unreadable _ _) c.requires e refl refl, rw c.unreadable.ensures (judges-unread c.args.bytes.now _ e))

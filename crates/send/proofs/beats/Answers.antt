@@ -1,19 +1,11 @@
 -- Each case of the comparison has its own answer. Assumes nothing.
-use mathlib.Core.Path.{sym}
-use native.Mathlib.Omega.{arith}
-use Rattle.send.specs.Choice.{beats_idle, beats-none, beats-earlier, beats-later}
+use Rattle.std.proofs.Common.{sym, ltb, ap₂, ◌∙◌, arith}
+use Rattle.send.specs.Choice.{beats_idle, beats-due, idle}
 use Rattle.send.proofs.beats.Goals as goal
 
-pub returns-then-best-count : goal.returns-then-best-count
-returns-then-best-count c = sym (beats-none _ _ _ _ c.if-run-from.true c.if-best-count.true)
+pub returns-then-waits : goal.returns-then-waits
+returns-then-waits c count best h least =
+    ap₂ ltb c.head_due.ensures least ∙ sym (beats-due _ _ _ _ (c.waits.ensures.0 c.if-waits.true) (λ e. omega (arith, h, e)))
 
-pub returns-then-here-there : goal.returns-then-here-there
-returns-then-here-there c =
-    sym (beats-earlier _ _ _ _ c.if-run-from.true c.if-best-count.false (omega (arith, c.if-here-there.true, c.head_due-there.ensures, c.head_due-here.ensures)))
-
-pub returns-then-run-from : goal.returns-then-run-from
-returns-then-run-from c =
-    sym (beats-later _ _ _ _ c.if-run-from.true c.if-best-count.false (omega (arith, c.if-here-there.false, c.head_due-there.ensures, c.head_due-here.ensures)))
-
-pub returns : goal.returns
-returns c = sym (beats_idle _ _ _ _ c.if-run-from.false)
+pub returns-else-waits : goal.returns-else-waits
+returns-else-waits c count best h least = c.if-waits.false ∙ sym (beats_idle _ _ _ _ (idle c.args.run.now c.args.session _ c.waits.ensures.1 c.if-waits.false))

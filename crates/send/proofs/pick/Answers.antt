@@ -1,22 +1,24 @@
 -- The choice among the sessions so far. Assumes nothing.
-use mathlib.Core.Path.{◌≡◌, sym, ap, ◌∙◌}
-use native.Mathlib.Omega.{arith}
-use Rattle.send.specs.Choice.{chosen_to, chosen_to-zero, chosen-new, chosen-keep, chosen-to}
+use Rattle.std.proofs.Common.{◌≡◌, sym, ap, ◌∙◌, arith}
+use Rattle.send.specs.Choice.{chosen_to, chosen-new, chosen-keep, chosen-to}
 use Rattle.send.proofs.pick.Goals as goal
+use Rattle.send.proofs.pick.Goals.{then-beats, else-beats}
 
-pub loop-i-init : goal.loop-i-init
-loop-i-init c = (omega arith, omega arith, sym (chosen_to-zero _ _))
-
-pub loop-i-preserved-then-beats : goal.loop-i-preserved-then-beats
-loop-i-preserved-then-beats c =
-    (omega arith, omega arith, chosen-new _ _ _ _ _ c.loop-i.invariant.2 c.beats.ensures c.if-beats.true)
-
-pub loop-i-preserved : goal.loop-i-preserved
-loop-i-preserved c =
-    (omega arith, omega arith, chosen-keep _ _ _ _ _ c.loop-i.invariant.2 c.beats.ensures c.if-beats.false)
+pub loop-session-preserved : goal.loop-session-preserved
+loop-session-preserved c =
+    let run = c.args.run.now in
+    let n = c.args.count in
+    let i = c.loop-session.session in
+    let best = c.loop-session.best in
+    let so_far = sym c.loop-session.invariant.1 in
+    let tested = c.beats.ensures n best c.loop-session.invariant.0 c.loop-session.invariant.2 in
+    elim c.if-beats.branch [
+      | then-beats w ↦ rw (w.best-is, w.least-is) (c.loop-session-test.true, sym (chosen-new run n best i c.beats.result so_far tested w.if-beats.true), w.head_due-least-then-beats.ensures)
+      | else-beats w ↦ rw (w.best-is, w.least-is) (c.loop-session.invariant.0, sym (chosen-keep run n best i c.beats.result so_far tested w.if-beats.false), c.loop-session.invariant.2)
+    ]
 
 pub returns : goal.returns
 returns c =
-    let s = c.args in
-    let e : c.loop-i.i ≡ s.count = omega arith in
-    c.loop-i.invariant.2 ∙ ap (chosen_to s.run.now s.count) e ∙ chosen-to s.run.now s.count
+    let some = c.in_ok-best.ensures.0 in
+    let e : c.loop-session.session ≡ c.args.count = omega (arith, some, c.loop-session-test.false, c.loop-session.auto.session-end (omega (arith, some))) in
+    (c.loop-session.invariant.0, sym (chosen-to _ _) ∙ ap (chosen_to c.args.run.now c.args.count) (sym e) ∙ c.loop-session.invariant.1)

@@ -1,11 +1,7 @@
 -- The choice among the sessions so far. Assumes nothing.
-use mathlib.Core.Path.{◌≡◌}
-use Prim.Native.Nat.{◌-◌, ◌≤◌}
-use Rattle.send.specs.Choice.{chosen_to}
+use Rattle.std.proofs.Common.{◌≡◌, ◌<◌}
+use Rattle.send.specs.Choice.{head_due, chosen_to}
 use Rattle.send.proofs.pick.Given as goal
 
-abbrev pub invariant-loop-i : goal.invariant-loop-i
-invariant-loop-i l = (l.i ≤ l.count) × (l.best ≤ l.count) × (l.best ≡ chosen_to l.run l.count l.i)
-
-abbrev pub decreases-loop-i : goal.decreases-loop-i
-decreases-loop-i l = l.count - l.i
+abbrev pub invariant-loop-session : goal.invariant-loop-session
+invariant-loop-session l = (l.best < l.count) × (chosen_to l.run l.count l.session ≡ l.best) × (l.least ≡ head_due l.run l.best)

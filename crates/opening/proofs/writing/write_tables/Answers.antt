@@ -9,8 +9,8 @@ use Rattle.opening.proofs.writing.write_tables.Goals as goal
 pub returns : goal.returns
 unfolding tables_over
 returns c =
-    let s = words c.args.service.now in
-    let e = words c.args.envelope.now in
+    let s = words c.args.service.now.0.now in
+    let e = words c.args.envelope.now.0.now in
     c.copy_table-4.ensures
     ∙ ap (λ l. over l envelope_ahead_at e)
     (c.copy_table-3.ensures

@@ -1,40 +1,41 @@
--- Each test tells whether one total would pass the most; where none would, the sums are safe. Assumes nothing.
-use mathlib.Core.Path.{◌≡◌, sym}
-use Prim.Native.Nat.{ℕ, ◌+◌, ◌≤◌}
-use native.Mathlib.Omega.{arith}
-use Rattle.run.specs.Brought.{most_total, passes, brought_much, brought_by}
+-- Each sum tells whether one total would pass the most; where none would, they are the tally. Assumes nothing.
+use Rattle.std.proofs.Common.{sym, ◌∙◌, arith}
+use Rattle.run.specs.Brought.{brought_much, brought_by}
 use Rattle.run.proofs.tally.brought_up.Goals as goal
 
-pass-sent : (a b c : ℕ) → b ≡ c → a + c ≤ most_total → a + b ≤ most_total
-pass-sent a b c e h = omega arith
-
-pub returns-then-tally-sums : goal.returns-then-tally-sums
-returns-then-tally-sums c =
+pub returns-in_err-checked_add : goal.returns-in_err-checked_add
+returns-in_err-checked_add c =
     let a = c.args in
-    sym (brought_much a.tally a.sums a.capacity (λ w. passes a.tally.offered a.sums.offered c.if-tally-sums.true w.offered))
+    c.from_residual.ensures ∙ sym (brought_much a.tally a.sums a.capacity (λ w. c.in_err-checked_add.ensures (omega (arith, w.offered))))
 
-pub returns-then-tally-sums-2 : goal.returns-then-tally-sums-2
-returns-then-tally-sums-2 c =
+pub returns-in_err-checked_add-2 : goal.returns-in_err-checked_add-2
+returns-in_err-checked_add-2 c =
     let a = c.args in
-    sym (brought_much a.tally a.sums a.capacity (λ w. passes a.tally.taken_in a.sums.taken_in c.if-tally-sums-2.true w.taken_in))
+    c.from_residual-in_err-checked_add-2.ensures ∙ sym (brought_much a.tally a.sums a.capacity (λ w. c.in_err-checked_add-2.ensures (omega (arith, w.taken_in))))
 
-pub returns-then-tally-sums-3 : goal.returns-then-tally-sums-3
-returns-then-tally-sums-3 c =
+pub returns-in_err-checked_add-3 : goal.returns-in_err-checked_add-3
+returns-in_err-checked_add-3 c =
     let a = c.args in
-    sym (brought_much a.tally a.sums a.capacity (λ w. passes a.tally.over a.sums.over c.if-tally-sums-3.true w.over))
+    c.from_residual-in_err-checked_add-3.ensures ∙ sym (brought_much a.tally a.sums a.capacity (λ w. c.in_err-checked_add-3.ensures (omega (arith, w.over))))
 
-pub returns-then-tally-sums-4 : goal.returns-then-tally-sums-4
-returns-then-tally-sums-4 c =
+pub returns-in_err-checked_add-4 : goal.returns-in_err-checked_add-4
+returns-in_err-checked_add-4 c =
     let a = c.args in
-    sym (brought_much a.tally a.sums a.capacity (λ w. passes a.tally.no_room a.sums.no_room c.if-tally-sums-4.true w.no_room))
+    c.from_residual-in_err-checked_add-4.ensures ∙ sym (brought_much a.tally a.sums a.capacity (λ w. c.in_err-checked_add-4.ensures (omega (arith, w.no_room))))
 
-pub returns-then-tally-sent : goal.returns-then-tally-sent
-returns-then-tally-sent c =
+pub returns-in_err-checked_add-5 : goal.returns-in_err-checked_add-5
+returns-in_err-checked_add-5 c =
     let a = c.args in
-    sym (brought_much a.tally a.sums a.capacity (λ w. passes a.tally.sent c.lesser-sent.result c.if-tally-sent.true (pass-sent _ _ _ c.lesser-sent.ensures w.sent)))
+    c.from_residual-in_err-checked_add-5.ensures ∙ sym (brought_much a.tally a.sums a.capacity (λ w. c.in_err-checked_add-5.ensures (omega (arith, c.min-sent.ensures, w.sent))))
 
 pub returns : goal.returns
 returns c =
     let a = c.args in
-    brought_by a.tally a.sums a.capacity c.lesser-sent.result c.lesser-sent.ensures
-    (omega arith) (omega arith) (omega arith) (omega arith) (omega arith)
+    let offered = c.in_ok-checked_add.ensures in
+    let taken_in = c.in_ok-checked_add-2.ensures in
+    let over = c.in_ok-checked_add-3.ensures in
+    let no_room = c.in_ok-checked_add-4.ensures in
+    let sent = c.in_ok-checked_add-5.ensures in
+    rw (offered.1, taken_in.1, over.1, no_room.1, sent.1)
+    (brought_by a.tally a.sums a.capacity c.min-sent.result c.min-sent.ensures
+    (omega (arith, offered.0)) (omega (arith, taken_in.0)) (omega (arith, over.0)) (omega (arith, no_room.0)) (omega (arith, sent.0)))

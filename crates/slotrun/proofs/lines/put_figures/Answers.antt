@@ -1,15 +1,16 @@
 -- The next figure comes after those that were put. Assumes nothing.
-use Rattle.std.proofs.Common.{refl, add-one, arith}
+use Rattle.std.proofs.Common.{add-one, arith, rules, ◌<◌, get_or-take}
 use Rattle.slotrun.specs.Text.{nexts}
 use Rattle.console.specs.Put.{put_none, put_both}
 use Rattle.slotrun.proofs.lines.put_figures.Goals as goal
 
-pub loop-i-init : goal.loop-i-init
+pub loop-figure-init : goal.loop-figure-init
 unfolding nexts
-loop-i-init c = (put_none c.args.page.now c.args.at, omega arith, omega arith, refl)
+loop-figure-init g c = (put_none c.args.page.now, omega arith)
 
-pub loop-i-preserved : goal.loop-i-preserved
+pub loop-figure-preserved : goal.loop-figure-preserved
 unfolding nexts
-loop-i-preserved c =
-    let i = c.loop-i.invariant in
-    (rw add-one (put_both i.0 c.next-end.ensures.0), omega arith, omega (arith, i.2, c.next-end.ensures.1), omega (arith, i.3, c.next-end.auto.page))
+loop-figure-preserved g c =
+    let i = c.loop-figure.invariant in
+    let below : c.loop-figure.figure-index < c.args.count = search rules in
+    (rw (add-one, ← get_or-take c.args.count c.args.figures.now c.loop-figure.figure-index _ below) (put_both _ _ _ i.0 c.put_next.ensures.put), omega (arith, i.1, c.put_next.ensures.few))

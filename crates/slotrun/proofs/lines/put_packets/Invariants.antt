@@ -1,11 +1,8 @@
--- The lines of the packets so far stand in the page, and what is left of them falls. Assumes nothing.
-use Rattle.std.proofs.Common.{◌-◌, ◌+◌, ◌*◌, ◌≤◌, length, ◌≡◌}
-use Rattle.slotrun.specs.Text.{packet_lines}
-use Rattle.console.specs.Put.{Put}
+-- The lines of the packets so far stand, and the numbers of the others are left. Assumes nothing.
+use Rattle.std.proofs.Common.{◌≡◌}
+use Rattle.std.specs.Slice.Iter.{chunks_exact_rest, chunks_exact_size}
+use Rattle.slotrun.proofs.Notes.{Listed}
 use Rattle.slotrun.proofs.lines.put_packets.Given as goal
 
-abbrev pub invariant-loop-i : goal.invariant-loop-i
-invariant-loop-i l = Put l.fn.page l.at (packet_lines l.slot l.notes l.i) l.page l.end × (l.end ≤ l.at + 256 * l.i) × (l.i ≤ l.sent) × (length l.page ≡ length l.fn.page)
-
-abbrev pub decreases-loop-i : goal.decreases-loop-i
-decreases-loop-i l = l.sent - l.i
+abbrev pub invariant-loop-note : goal.invariant-loop-note
+invariant-loop-note g l = Listed l.fn.page l.slot l.notes l.sent (chunks_exact_rest l.note-iterator) l.page × (chunks_exact_size l.note-iterator ≡ 3)

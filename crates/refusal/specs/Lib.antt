@@ -1,0 +1,3 @@
+-- The numbers of document 01's refusals, and how a refusal is printed.
+pub mod Numbers
+pub mod Text

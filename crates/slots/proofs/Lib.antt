@@ -1,0 +1,2 @@
+-- What a comparison of slices tells.
+pub mod Kept

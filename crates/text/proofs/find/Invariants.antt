@@ -1,9 +1,0 @@
--- What is left of the text falls. Assumes nothing.
-use Rattle.std.proofs.Common.{length, ◌-◌, ◌≤◌}
-use Rattle.text.proofs.find.Given as goal
-
-abbrev pub invariant-loop-end : goal.invariant-loop-end
-invariant-loop-end l = (l.from ≤ l.end) × (l.end ≤ length l.text)
-
-abbrev pub decreases-loop-end : goal.decreases-loop-end
-decreases-loop-end l = length l.text - l.end
