@@ -21,7 +21,8 @@ pub struct JudgedOpening {
     pub answer: Answer,
 }
 
-// Opens a run of a sheet that reads.
+// Opens a run of a sheet that reads. Not inlined: its caller would copy the sheet first, and C's archive would need `memcpy` for that.
+#[inline(never)]
 fn open_sheet(sheet: &Sheet<'_>, run: &mut [u32]) -> JudgedOpening
     requires { run_numbers ≤ length run.old }
     ensures { Opens sheet.now.bytes.now run.old run.new (told result.opening) × Judges sheet.now.bytes.now result.answer.verdict result.answer.figures }

@@ -1,36 +1,37 @@
-// The pieces that the words are made of.
-ghost use Rattle.std.specs.Prelude.{◌≡◌, min};
+// The pieces that the words are made of, each with the room that it takes at the most.
+ghost use Rattle.std.specs.Prelude.{◌≡◌, ◌+◌, ◌≤◌, min, length};
 
-use std::fmt;
-use std::fmt::Formatter;
+use console::text::Text;
+
+// A number between two texts.
+pub fn put_with<const N: usize>(line: &mut Text<N>, before: &[u8], n: u32, after: &[u8])
+    requires { length line.old + (length before.now + 10 + length after.now) ≤ N }
+    ensures { length line.new ≤ length line.old + (length before.now + 10 + length after.now) }
+{
+    line.put_text(before);
+    line.put_number(n);
+    line.put_text(after);
+}
 
 // ", at byte 31: "
-#[derive(Clone, Copy)]
-pub struct At(pub u32);
-
-impl fmt::Display for At {
-    fn fmt<W: fmt::Write>(&self, f: &mut Formatter<W>) -> fmt::Result {
-        let place = self.0;
-        write!(f, ", at byte {place}: ")
-    }
+pub fn put_place<const N: usize>(line: &mut Text<N>, place: u32)
+    requires { length line.old + 22 ≤ N }
+    ensures { length line.new ≤ length line.old + 22 }
+{
+    put_with(line, b", at byte ", place, b": ");
 }
 
 // "2 to 64 are right", or "1 is right"
-#[derive(Clone, Copy)]
-pub struct Right {
-    pub low: u32,
-    pub high: u32,
-}
-
-impl fmt::Display for Right {
-    fn fmt<W: fmt::Write>(&self, f: &mut Formatter<W>) -> fmt::Result {
-        let low = self.low;
-        let high = self.high;
-        if low == high {
-            return write!(f, "{low} is right");
-        }
-        write!(f, "{low} to {high} are right")
+pub fn put_right<const N: usize>(line: &mut Text<N>, low: u32, high: u32)
+    requires { length line.old + 34 ≤ N }
+    ensures { length line.new ≤ length line.old + 34 }
+{
+    if low == high {
+        put_with(line, b"", low, b" is right");
+        return;
     }
+    put_with(line, b"", low, b" to ");
+    put_with(line, b"", high, b" are right");
 }
 
 // A number of bytes; the largest number of 32 bits stands for all above it too.

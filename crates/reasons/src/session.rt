@@ -1,11 +1,10 @@
 // The words for what is wrong with a session.
-ghost use Rattle.std.specs.Prelude.{◌<◌, ◌≤◌};
+ghost use Rattle.std.specs.Prelude.{◌≡◌, [], ◌+◌, ◌<◌, ◌≤◌, length};
 
-use crate::pieces::{At, Right, small};
+use crate::pieces::{put_place, put_right, put_with, small};
 use crate::spot::{PERIOD_AT, byte_at, record_at, session_at, word_at};
+use console::text::Text;
 use sheet::limits::{FIXED_BYTES, LARGEST_RATE, LARGEST_VALUE, LONGEST_TABLE};
-use std::fmt;
-use std::fmt::Formatter;
 
 // Where the rates stand in a session's bytes.
 const SERVICE_RATE_AT: u32 = 3;
@@ -17,15 +16,6 @@ const ENVELOPE_RATE_AT: u32 = 5;
 enum Kind {
     Service,
     Envelope,
-}
-
-impl fmt::Display for Kind {
-    fn fmt<W: fmt::Write>(&self, f: &mut Formatter<W>) -> fmt::Result {
-        match self {
-            Kind::Service => write!(f, "service"),
-            Kind::Envelope => write!(f, "envelope"),
-        }
-    }
 }
 
 // One of a session's two curves: where its values start and how many they are, and where its rate stands.
@@ -61,12 +51,20 @@ impl<'a> Session<'a> {
     }
 
     // "session 2, envelope: "
-    fn whose<W: fmt::Write>(&self, f: &mut Formatter<W>, kind: Kind) -> fmt::Result {
-        write!(f, "session {}, {kind}: ", self.index + 1)
+    fn put_whose<const N: usize>(&self, line: &mut Text<N>, kind: Kind)
+        requires { (line.old ≡ []) × (256 ≤ N) }
+        ensures { length line.new ≤ 32 }
+    {
+        match kind {
+            Kind::Service => put_with(line, b"session ", self.index + 1, b", service: "),
+            Kind::Envelope => put_with(line, b"session ", self.index + 1, b", envelope: "),
+        }
     }
 
     // The bytes that it takes: its fixed ones, or all where those are there.
-    fn needed(&self, have: u32) -> u32 {
+    fn needed(&self, have: u32) -> u32
+        ensures { result ≤ 1027 }
+    {
         if have < FIXED_BYTES as u32 {
             return FIXED_BYTES as u32;
         }
@@ -74,57 +72,64 @@ impl<'a> Session<'a> {
     }
 
     // A session that is cut off.
-    pub fn cut_off<W: fmt::Write>(&self, f: &mut Formatter<W>) -> fmt::Result {
+    pub fn put_cut_off<const N: usize>(&self, line: &mut Text<N>)
+        requires { (line.old ≡ []) × (256 ≤ N) }
+        ensures { length line.new + 1 ≤ N }
+    {
         let have = small(self.bytes.len()).saturating_sub(self.start);
         let needed = self.needed(have);
-        write!(
-            f,
-            "session {}{}{needed} bytes are needed and {have} are left: a larger length, fewer sessions or shorter tables",
-            self.index + 1,
-            At(self.start)
-        )
+        put_with(line, b"session ", self.index + 1, b"");
+        put_place(line, self.start);
+        put_with(line, b"", needed, b" bytes are needed and ");
+        put_with(line, b"", have, b" are left: ");
+        line.put_text(b"a larger length, fewer sessions or shorter tables");
     }
 
     // A table's length that is out of range.
-    pub fn table_length<W: fmt::Write>(&self, f: &mut Formatter<W>) -> fmt::Result {
+    pub fn put_table_length<const N: usize>(&self, line: &mut Text<N>)
+        requires { (line.old ≡ []) × (256 ≤ N) }
+        ensures { length line.new + 1 ≤ N }
+    {
         let kind = if self.start < self.place {
             Kind::Envelope
         } else {
             Kind::Service
         };
-        self.whose(f, kind)?;
+        self.put_whose(line, kind);
         let values = byte_at(self.bytes, self.place);
-        let right = Right {
-            low: byte_at(self.bytes, PERIOD_AT),
-            high: LONGEST_TABLE,
-        };
-        write!(f, "a table of {values} values{}{right}", At(self.place))
+        put_with(line, b"a table of ", values, b" values");
+        put_place(line, self.place);
+        put_right(line, byte_at(self.bytes, PERIOD_AT), LONGEST_TABLE);
     }
 
     // A rate that is out of range.
-    pub fn rate<W: fmt::Write>(&self, f: &mut Formatter<W>) -> fmt::Result {
+    pub fn put_rate<const N: usize>(&self, line: &mut Text<N>)
+        requires { (line.old ≡ []) × (256 ≤ N) }
+        ensures { length line.new + 1 ≤ N }
+    {
         let (kind, low) = if self.start + SERVICE_RATE_AT < self.place {
             (Kind::Envelope, 0)
         } else {
             (Kind::Service, 1)
         };
-        self.whose(f, kind)?;
-        let rate = word_at(self.bytes, self.place);
-        let right = Right {
-            low,
-            high: LARGEST_RATE,
-        };
-        write!(f, "a rate of {rate}{}{right}", At(self.place))
+        self.put_whose(line, kind);
+        put_with(line, b"a rate of ", word_at(self.bytes, self.place), b"");
+        put_place(line, self.place);
+        put_right(line, low, LARGEST_RATE);
     }
 
     // A join that falls, at a rate, or a value that is wrong.
-    pub fn values<W: fmt::Write>(&self, f: &mut Formatter<W>) -> fmt::Result {
+    pub fn put_values<const N: usize>(&self, line: &mut Text<N>)
+        requires { (line.old ≡ []) × (256 ≤ N) }
+        ensures { length line.new + 1 ≤ N }
+    {
         let curve = self.curve();
-        self.whose(f, curve.kind)?;
+        self.put_whose(line, curve.kind);
         if self.place < self.start + FIXED_BYTES as u32 {
-            return self.join(f, curve);
+            self.put_join(line, curve);
+        } else {
+            self.put_value(line, curve);
         }
-        self.value(f, curve)
     }
 
     // The curve whose rate or one of whose values stands at the place.
@@ -149,36 +154,49 @@ impl<'a> Session<'a> {
         }
     }
 
-    // A join that falls: the value a period before the table's end and the rate, and the last value of the table.
-    fn join<W: fmt::Write>(&self, f: &mut Formatter<W>, curve: Curve) -> fmt::Result {
-        let bytes = self.bytes;
-        let before = curve.count.saturating_sub(byte_at(bytes, PERIOD_AT));
-        let reached = word_at(bytes, curve.from + 2 * before) + word_at(bytes, curve.rate_at);
-        let last = word_at(bytes, curve.from + 2 * curve.count.saturating_sub(1));
-        write!(
-            f,
-            "{reached} at the join is below {last}{}a longer table, or a higher rate",
-            At(curve.rate_at)
-        )
+    // What a curve has at its join: the value a period before the table's end and the rate.
+    fn at_join(&self, curve: Curve) -> u32
+        ensures { result < 131072 }
+    {
+        let before = curve.count.saturating_sub(byte_at(self.bytes, PERIOD_AT));
+        word_at(self.bytes, curve.from + 2 * before) + word_at(self.bytes, curve.rate_at)
     }
 
-    // A value that is too large, or falls.
-    fn value<W: fmt::Write>(&self, f: &mut Formatter<W>, curve: Curve) -> fmt::Result {
+    // The last value of a curve's table.
+    fn last_of(&self, curve: Curve) -> u32
+        ensures { result < 65536 }
+    {
+        word_at(self.bytes, curve.from + 2 * curve.count.saturating_sub(1))
+    }
+
+    // A join that falls, behind the words for whose it is.
+    fn put_join<const N: usize>(&self, line: &mut Text<N>, curve: Curve)
+        requires { (length line.old ≤ 32) × (256 ≤ N) }
+        ensures { length line.new + 1 ≤ N }
+    {
+        put_with(line, b"", self.at_join(curve), b" at the join is below ");
+        put_with(line, b"", self.last_of(curve), b"");
+        put_place(line, curve.rate_at);
+        line.put_text(b"a longer table, or a higher rate");
+    }
+
+    // A value that is too large, or falls, behind the words for whose it is.
+    fn put_value<const N: usize>(&self, line: &mut Text<N>, curve: Curve)
+        requires { (length line.old ≤ 32) × (256 ≤ N) }
+        ensures { length line.new + 1 ≤ N }
+    {
         let which = self.place.saturating_sub(curve.from) / 2 + 1;
         let value = word_at(self.bytes, self.place);
-        let before = word_at(self.bytes, self.place.saturating_sub(2));
-        write!(f, "value {which} is {value}")?;
+        put_with(line, b"value ", which, b" is ");
+        put_with(line, b"", value, b"");
         if LARGEST_VALUE < value {
-            let right = Right {
-                low: 0,
-                high: LARGEST_VALUE,
-            };
-            return write!(f, "{}{right}", At(self.place));
+            put_place(line, self.place);
+            put_right(line, 0, LARGEST_VALUE);
+            return;
         }
-        write!(
-            f,
-            " and the one before it {before}{}a curve never falls",
-            At(self.place)
-        )
+        let before = word_at(self.bytes, self.place.saturating_sub(2));
+        put_with(line, b" and the one before it ", before, b"");
+        put_place(line, self.place);
+        line.put_text(b"a curve never falls");
     }
 }

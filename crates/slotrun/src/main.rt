@@ -41,7 +41,7 @@ fn main(rt: HostRuntime) {
         Ok(n) => {
             let sheet = &bytes[..n];
             if let Err(refusal) = run_stream(rt, sheet) {
-                reasons::tell(&mut rt.stderr(), sheet, refusal);
+                reasons::tell(&mut rt.stderr(), sheet, refusal.number(), refusal.place);
             }
         }
         Err(error) => failure::tell(&mut rt.stderr(), b"standard input", &error),

@@ -2,6 +2,7 @@
 ghost use Rattle.std.specs.Prelude.{◌≡◌, length, min, take};
 ghost use Rattle.guard.specs.Tells.{Tells};
 ghost use Rattle.slots.specs.Same.{SameFrom};
+ghost use Rattle.slots.specs.Sets.{SameLengths, Sets};
 
 use crate::command::{Command, command_of};
 use crate::settings::Settings;
@@ -19,7 +20,7 @@ const OUTCOMES_ROOM: usize = 56;
 const SENT_ROOM: usize = 200;
 
 // The most bytes that a line holds; a longer sheet is cut off there, and is refused all the same.
-const LINE_ROOM: usize = 8192;
+pub const LINE_ROOM: usize = 8192;
 
 // What stands in the result slices before a slot: no slot writes it, since its numbers are far smaller.
 pub const FILLER: u32 = 4294967295;
@@ -69,13 +70,13 @@ impl Bench {
     }
 
     fn note_run(&mut self)
-        ensures { (self.new.before ≡ self.old.run) × (self.new.run ≡ self.old.run) }
+        ensures { (self.new.before ≡ self.old.run) × (self.new.run ≡ self.old.run) × (self.new.set ≡ self.old.set) }
     {
         self.before.copy_from_slice(&self.run);
     }
 
     pub fn open(&mut self, sheet: &[u8]) -> Result<(), Refusal>
-        ensures { self.new.before ≡ self.old.run }
+        ensures { (self.new.before ≡ self.old.run) × (self.new.set ≡ self.old.set) }
     {
         self.note_run();
         opening::open(sheet, lent(&mut self.run, self.set.run))
@@ -83,7 +84,7 @@ impl Bench {
 
     // One slot; the tally that it leaves is set for the next.
     fn slot(&mut self, offers: &[u8]) -> Slotted
-        ensures { (self.new.set.tally ≡ result.tally) × (self.new.before ≡ self.old.before) }
+        ensures { (self.new.set.tally ≡ result.tally) × SameLengths self.old.set self.new.set × (self.new.before ≡ self.old.before) }
     {
         let Bench {
             run,
@@ -105,7 +106,7 @@ impl Bench {
 
     // Some slots with the same offers. Before the last the run is noted, and the result slices are filled.
     pub fn slots(&mut self, times: u32, offers: &[u8]) -> Slotted
-        ensures { self.new.set.tally ≡ result.tally }
+        ensures { (self.new.set.tally ≡ result.tally) × SameLengths self.old.set self.new.set }
     {
         for _ in 1..times {
             let _ = self.slot(offers);
@@ -116,10 +117,11 @@ impl Bench {
         self.slot(offers)
     }
 
-    // Runs the command of a line.
-    pub fn run_line<W: Write>(&mut self, to: &mut W, line: &[u8]) -> io::Result<()> {
-        let mut room = [0u8; LINE_ROOM];
-        match command_of(line, &mut room) {
+    // Runs a command, or tells that a line is none.
+    fn run<W: Write>(&mut self, to: &mut W, command: Option<Command<'_>>) -> io::Result<()>
+        ensures { Sets self.old.set command.entry self.new.set }
+    {
+        match command {
             Some(Command::Sheet(sheet)) => self.show_opening(to, sheet)?,
             Some(Command::Slots(times, offers)) => self.show_slots(to, times.get(), offers)?,
             Some(Command::Lengths(lengths)) => self.set = self.set.with_lengths(lengths),
@@ -129,5 +131,15 @@ impl Bench {
             Some(Command::Put(..)) | None => print::write_unclear(to)?,
         }
         Ok(())
+    }
+
+    // Runs the command of a line; the room takes the bytes that it has.
+    pub fn run_line<W: Write>(
+        &mut self,
+        to: &mut W,
+        line: &[u8],
+        room: &mut [u8; LINE_ROOM],
+    ) -> io::Result<()> {
+        self.run(to, command_of(line, room))
     }
 }

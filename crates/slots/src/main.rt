@@ -20,7 +20,8 @@ mod command;
 mod settings;
 mod shown;
 
-use bench::Bench;
+use bench::{Bench, LINE_ROOM};
+use text::onward::Onward;
 use text::{lines, read};
 
 // The most bytes of a script that are read.
@@ -30,10 +31,12 @@ fn main(rt: HostRuntime) {
     let mut text = [0u8; TEXT_BYTES];
     let got = read::read_full(&mut rt.stdin(), &mut text);
     let mut bench = Bench::new();
-    // What cannot be written is given up: nobody is there to be told.
+    let mut room = [0u8; LINE_ROOM];
+    // What cannot be written is passed over: nobody is there to be told.
+    let mut output = rt.stdout();
     let _ = lines::run_lines(
-        &mut rt.stdout(),
+        &mut Onward::new(&mut output),
         &text[..got],
-        |to, line| bench.run_line(to, line),
+        |to, line| bench.run_line(to, line, &mut room),
     );
 }

@@ -1,5 +1,7 @@
 // What a script's lines set for the calls after them: how many numbers of each slice are lent, and the tally.
-ghost use Rattle.std.specs.Prelude.{◌≡◌};
+ghost use Rattle.std.specs.Prelude.{◌≡◌, get_or};
+ghost use Rattle.run.specs.Totals.{tally_of};
+ghost use Rattle.slots.specs.Sets.{SameLengths};
 
 use run::tally::Tally;
 
@@ -14,7 +16,7 @@ pub struct Settings {
 impl Settings {
     // Three lengths; the tally stays.
     pub fn with_lengths(self, lengths: [u32; 3]) -> Settings
-        ensures { result.tally ≡ self.tally }
+        ensures { result ≡ record { run = get_or lengths 0 0; outcomes = get_or lengths 1 0; sent = get_or lengths 2 0; tally = self.tally } }
     {
         let [run, outcomes, sent] = lengths;
         Settings {
@@ -27,7 +29,7 @@ impl Settings {
 
     // Six totals; the lengths stay.
     pub fn with_tally(self, totals: [u32; 6]) -> Settings
-        ensures { (result.run ≡ self.run) × (result.outcomes ≡ self.outcomes) × (result.sent ≡ self.sent) }
+        ensures { (result.tally ≡ tally_of totals) × SameLengths self result }
     {
         Settings {
             tally: Tally::from(totals),

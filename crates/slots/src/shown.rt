@@ -1,5 +1,6 @@
 // The two calls, opening and a slot, and the line that shows what each answered and left.
 ghost use Rattle.std.specs.Prelude.{◌≡◌, length, take};
+ghost use Rattle.slots.specs.Sets.{SameLengths};
 
 use crate::bench::{Bench, FILLER};
 use layout::RUN_NUMBERS;
@@ -18,19 +19,20 @@ fn written(numbers: &[u32]) -> &[u32]
 
 // The end of a line: is the run's slice as it was?
 fn end_line<W: Write>(to: &mut W, kept: bool) -> Result<()> {
-    let end = if kept { "kept" } else { "touched" };
-    writeln!(to, "; {end}")
+    to.write_all(if kept { b"; kept\n" } else { b"; touched\n" })
 }
 
 impl Bench {
-    pub fn show_opening<W: Write>(&mut self, to: &mut W, sheet: &[u8]) -> Result<()> {
+    pub fn show_opening<W: Write>(&mut self, to: &mut W, sheet: &[u8]) -> Result<()>
+        ensures { self.new.set ≡ self.old.set }
+    {
         match self.open(sheet) {
             Ok(()) => {
                 to.write_all(b"opened")?;
                 end_line(to, self.is_kept(RUN_NUMBERS))
             }
             Err(refusal) => {
-                write!(to, "{refusal}")?;
+                print::refusal(to, refusal.number(), refusal.place)?;
                 end_line(to, self.is_kept(0))
             }
         }
@@ -46,15 +48,18 @@ impl Bench {
     }
 
     // Some slots with the same offers; the last is shown.
-    pub fn show_slots<W: Write>(&mut self, to: &mut W, times: u32, offers: &[u8]) -> Result<()> {
+    pub fn show_slots<W: Write>(&mut self, to: &mut W, times: u32, offers: &[u8]) -> Result<()>
+        ensures { SameLengths self.old.set self.new.set }
+    {
         match self.slots(times, offers).answer {
             Ok(k) => {
-                write!(to, "sent {k}")?;
+                to.write_all(b"sent")?;
+                print::all(to, &[k])?;
                 self.print_results(to)?;
                 end_line(to, self.is_kept(RUN_NUMBERS))
             }
             Err(refusal) => {
-                write!(to, "{refusal}")?;
+                print::refusal(to, refusal.number(), refusal.place)?;
                 self.print_results(to)?;
                 end_line(to, self.is_kept(0))
             }

@@ -3,7 +3,7 @@
 //   01F4*64     the word 64 times, 128 bytes
 //   (0000 01F4*64)*16     what stands between the brackets 16 times; brackets do not nest
 //   -           no bytes at all
-ghost use Rattle.std.specs.Prelude.{◌≡◌, ◌<◌, ◌≤◌, length, IfSome};
+ghost use Rattle.std.specs.Prelude.{◌≡◌, ◌-◌, ◌<◌, ◌≤◌, drop, length, IfSome};
 ghost use Rattle.text.specs.Lines.{Fits, Ordered};
 
 use crate::number::first_number;
@@ -18,24 +18,16 @@ fn byte_of(high: u8, low: u8) -> Option<u8> {
     Some((16 * high + low) as u8)
 }
 
-// Writes the bytes from `from` to `to` once more, at `written`, as far as there is room.
-fn again(bytes: &mut [u8], from: usize, to: usize, written: usize) -> usize
-    requires { (from ≤ to) × (to ≤ length bytes.old) × (written ≤ length bytes.old) }
-    ensures { (written ≤ result) × (result ≤ length bytes.old) }
-{
-    let count = (to - from).min(bytes.len() - written);
-    bytes.copy_within(from..from + count, written);
-    written + count
-}
-
-// Has the bytes from `from` to `to` stand there `count` times, and answers where they end.
+// Has the bytes from `from` to `to` stand there `count` times, as far as there is room, and answers where they end. Each byte is that of a word before, so
+// that the work is that of the bytes written, however often an empty or a short word is asked for.
 fn repeat(bytes: &mut [u8], from: usize, to: usize, count: u64) -> usize
     requires { (from ≤ to) × (to ≤ length bytes.old) }
     ensures { (from ≤ result) × (result ≤ length bytes.old) }
 {
-    let mut end = from;
-    for _ in 0..count {
-        end = again(bytes, from, to, end);
+    let width = to - from;
+    let end = from + width.saturating_mul(count as usize).min(bytes.len() - from);
+    for i in to..end {
+        bytes[i] = bytes[i - width];
     }
     end
 }
@@ -55,6 +47,7 @@ impl<'a> Written<'a> {
     // is one of 0, and a byte for which there is no room is left out.
     fn read<'l>(&mut self, line: &'l [u8]) -> Option<&'l [u8]>
         ensures further { IfSome result (λ rest. length rest.now < length line.now) }
+        ensures behind { IfSome result (λ rest. rest.now ≡ drop (length line.now - length rest.now) line.now) }
         ensures room { (self.new.bytes.ghost_name ≡ self.old.bytes.ghost_name) × (length self.new.bytes.now ≡ length self.old.bytes.now) }
     {
         match line {

@@ -4,5 +4,6 @@
 pub mod hex;
 pub mod lines;
 pub mod number;
+pub mod onward;
 pub mod print;
 pub mod read;

@@ -1,6 +1,7 @@
 // The printing of answers: what a writer whose contents are known then holds.
 ghost use Rattle.std.specs.Prelude.{[], ◌∷◌, ◌++◌, OnOk, IfSome, codes};
 ghost use Rattle.std.specs.Io.KnownBytes.{Appends};
+ghost use Rattle.std.specs.Fmt.{decimal};
 ghost use Rattle.text.specs.Printed.{spaced};
 
 use std::fmt::Display;
@@ -15,6 +16,14 @@ pub fn all<W: Write, T: Display + Copy + Drop>(to: &mut W, values: &[T]) -> Resu
         write!(to, " {value}")?;
     }
     Ok(())
+}
+
+// A refusal: its number and its place.
+pub fn refusal<W: Write>(to: &mut W, number: u32, place: u32) -> Result<()>
+    ensures { OnOk result (Appends (W.contents to.old) (W.contents to.new) (codes "refused" ++ ((32 ∷ decimal number) ++ (32 ∷ decimal place)))) }
+{
+    to.write_all(b"refused")?;
+    all(to, &[number, place])
 }
 
 // A line that is a comment is written as it stands.

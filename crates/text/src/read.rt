@@ -9,8 +9,11 @@ pub fn read_full<R: Read>(input: &mut R, room: &mut [u8]) -> usize
     ensures { Counts result room.new }
 {
     let mut done = 0;
-    while let Ok(n @ 1..) = input.read(&mut room[done..]) {
-        done += n;
+    while done < room.len() {
+        match input.read(&mut room[done..]) {
+            Ok(n @ 1..) => done += n,
+            _ => return done,
+        }
     }
     done
 }

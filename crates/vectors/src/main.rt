@@ -7,6 +7,7 @@
 #![tactic(auto)]
 
 use std::io::{Result, Write};
+use text::onward::Onward;
 use text::{hex, lines, print, read};
 use verdict::{Answer, Verdict};
 
@@ -18,9 +19,15 @@ const ROOM: usize = 8192;
 
 fn print_verdict<W: Write>(to: &mut W, answer: Answer, sessions: usize) -> Result<()> {
     match answer.verdict {
-        Verdict::Passed(slack, t) => write!(to, "passed {} {}", slack.0, t.0)?,
-        Verdict::Failed(t) => write!(to, "failed {}", t.0)?,
-        Verdict::Unreadable(refusal) => write!(to, "{refusal}")?,
+        Verdict::Passed(slack, t) => {
+            to.write_all(b"passed")?;
+            print::all(to, &[slack.0, t.0])?;
+        }
+        Verdict::Failed(t) => {
+            to.write_all(b"failed")?;
+            print::all(to, &[t.0])?;
+        }
+        Verdict::Unreadable(refusal) => print::refusal(to, refusal.number(), refusal.place)?,
     }
     let figures = answer.figures.map(|figure| figure.0);
     print::all(to, &figures[..figures.len().min(sessions)])?;
@@ -32,16 +39,18 @@ fn print_answer<W: Write>(to: &mut W, bytes: &[u8]) -> Result<()> {
         Ok(reading) => {
             let sessions = reading.count;
             let starts = reading.starts;
-            write!(
-                to,
-                "read {} {} {sessions}:",
-                reading.capacity.0, reading.period.0
-            )?;
+            to.write_all(b"read")?;
+            print::all(to, &[reading.capacity.0, reading.period.0])?;
+            print::all(to, &[sessions])?;
+            to.write_all(b":")?;
             print::all(to, &starts[..starts.len().min(sessions)])?;
             writeln!(to)?;
             print_verdict(to, verdict::judge(bytes), sessions)
         }
-        Err(refusal) => writeln!(to, "{refusal}"),
+        Err(refusal) => {
+            print::refusal(to, refusal.number(), refusal.place)?;
+            writeln!(to)
+        }
     }
 }
 
@@ -56,6 +65,7 @@ fn run_line<W: Write>(to: &mut W, line: &[u8]) -> Result<()> {
 fn main(rt: HostRuntime) {
     let mut text = [0u8; TEXT_BYTES];
     let got = read::read_full(&mut rt.stdin(), &mut text);
-    // What cannot be written is given up: nobody is there to be told.
-    let _ = lines::run_lines(&mut rt.stdout(), &text[..got], run_line);
+    // What cannot be written is passed over: nobody is there to be told.
+    let mut output = rt.stdout();
+    let _ = lines::run_lines(&mut Onward::new(&mut output), &text[..got], run_line);
 }
