@@ -12,7 +12,7 @@ pub record SameLengths (before after : Settings) : Type 0 where
   pub outcomes : after.outcomes ≡ before.outcomes
   pub sent : after.sent ≡ before.sent
 
--- lengths set the lengths and totals the tally; slots leave their tally; any other command, and a line that is none, sets nothing
+-- lengths set the lengths and totals the tally; slots leave the lengths; any other command, and a line that is none, sets nothing
 abbrev pub Sets : Settings → Option Command → Settings → Type 0
 Sets before (Some (Lengths lengths)) after = after ≡ record { run = get_or lengths 0 0; outcomes = get_or lengths 1 0; sent = get_or lengths 2 0; tally = before.tally }
 Sets before (Some (Tally totals)) after = (after.tally ≡ tally_of totals) × SameLengths before after

@@ -122,13 +122,13 @@ impl Bench {
         ensures { Sets self.old.set command.entry self.new.set }
     {
         match command {
-            Some(Command::Sheet(sheet)) => self.show_opening(to, sheet)?,
-            Some(Command::Slots(times, offers)) => self.show_slots(to, times.get(), offers)?,
+            Some(Command::Sheet(sheet)) => return self.show_opening(to, sheet),
+            Some(Command::Slots(times, offers)) => return self.show_slots(to, times.get(), offers),
             Some(Command::Lengths(lengths)) => self.set = self.set.with_lengths(lengths),
             Some(Command::Tally(totals)) => self.set = self.set.with_tally(totals),
             Some(Command::Put(place, value)) if place < RUN_ROOM => self.run[place] = value,
             Some(Command::Zeros) => self.run.fill(0),
-            Some(Command::Put(..)) | None => print::write_unclear(to)?,
+            Some(Command::Put(..)) | None => return print::write_unclear(to),
         }
         Ok(())
     }

@@ -21,7 +21,6 @@ mod settings;
 mod shown;
 
 use bench::{Bench, LINE_ROOM};
-use text::onward::Onward;
 use text::{lines, read};
 
 // The most bytes of a script that are read.
@@ -32,10 +31,9 @@ fn main(rt: HostRuntime) {
     let got = read::read_full(&mut rt.stdin(), &mut text);
     let mut bench = Bench::new();
     let mut room = [0u8; LINE_ROOM];
-    // What cannot be written is passed over: nobody is there to be told.
-    let mut output = rt.stdout();
+    // Nobody is there to be told what could not be written.
     let _ = lines::run_lines(
-        &mut Onward::new(&mut output),
+        &mut rt.stdout(),
         &text[..got],
         |to, line| bench.run_line(to, line, &mut room),
     );

@@ -22,29 +22,30 @@ fn end_line<W: Write>(to: &mut W, kept: bool) -> Result<()> {
     to.write_all(if kept { b"; kept\n" } else { b"; touched\n" })
 }
 
+// What cannot be written is passed over, and printing goes on: the answers are the first failure.
 impl Bench {
     pub fn show_opening<W: Write>(&mut self, to: &mut W, sheet: &[u8]) -> Result<()>
         ensures { self.new.set ≡ self.old.set }
     {
         match self.open(sheet) {
             Ok(()) => {
-                to.write_all(b"opened")?;
-                end_line(to, self.is_kept(RUN_NUMBERS))
+                let told = to.write_all(b"opened");
+                told.and(end_line(to, self.is_kept(RUN_NUMBERS)))
             }
             Err(refusal) => {
-                print::refusal(to, refusal.number(), refusal.place)?;
-                end_line(to, self.is_kept(0))
+                let told = print::refusal(to, refusal.number(), refusal.place);
+                told.and(end_line(to, self.is_kept(0)))
             }
         }
     }
 
     fn print_results<W: Write>(&self, to: &mut W) -> Result<()> {
-        to.write_all(b"; outcomes")?;
-        print::all(to, written(&self.outcomes))?;
-        to.write_all(b"; packets")?;
-        print::all(to, written(&self.sent))?;
-        to.write_all(b"; tally")?;
-        print::all(to, &self.set.tally.totals())
+        let told = to.write_all(b"; outcomes");
+        let told = told.and(print::all(to, written(&self.outcomes)));
+        let told = told.and(to.write_all(b"; packets"));
+        let told = told.and(print::all(to, written(&self.sent)));
+        let told = told.and(to.write_all(b"; tally"));
+        told.and(print::all(to, &self.set.tally.totals()))
     }
 
     // Some slots with the same offers; the last is shown.
@@ -53,15 +54,15 @@ impl Bench {
     {
         match self.slots(times, offers).answer {
             Ok(k) => {
-                to.write_all(b"sent")?;
-                print::all(to, &[k])?;
-                self.print_results(to)?;
-                end_line(to, self.is_kept(RUN_NUMBERS))
+                let told = to.write_all(b"sent");
+                let told = told.and(print::all(to, &[k]));
+                let told = told.and(self.print_results(to));
+                told.and(end_line(to, self.is_kept(RUN_NUMBERS)))
             }
             Err(refusal) => {
-                print::refusal(to, refusal.number(), refusal.place)?;
-                self.print_results(to)?;
-                end_line(to, self.is_kept(0))
+                let told = print::refusal(to, refusal.number(), refusal.place);
+                let told = told.and(self.print_results(to));
+                told.and(end_line(to, self.is_kept(0)))
             }
         }
     }

@@ -1,5 +1,8 @@
 -- A value more is printed after those before it. Assumes nothing.
 use Rattle.std.proofs.Common.{◌≡◌, List, [], ◌∷◌, ◌++◌, ℕ, ◌+◌, ◌<◌, None, Some, IfSome, refl, sym, ap, ◌∙◌, append_assoc, append-nil, length, take, get_or, subst}
+use Rattle.std.specs.Prelude.{Ok, Err, OnOk}
+use Rattle.std.specs.Result.{result_and}
+use Rattle.std.specs.declared.result.Result.{Result}
 use Rattle.std.proofs.lemmas.List.{take_more}
 use Rattle.std.specs.Fmt.{◌++?◌}
 use Rattle.std.specs.Io.KnownBytes.{Appends}
@@ -37,3 +40,10 @@ pub spaced_more : {A : Type 0} (output : A → Option (List ℕ)) (xs : List A) 
 spaced_more output xs i x a b c low e h k =
     let one = take_more xs i x low ∙ ap (λ y. take i xs ++ (y ∷ [])) (sym e) in
     subst (λ s. IfSome s (Appends a c)) (sym (ap (spaced output) one ∙ spaced_last output (take i xs) x)) (written_more (spaced output (take i xs)) (Some (32 ∷ []) ++? output x) a b c h k)
+
+-- the same where neither failed
+pub spaced_on : {A E : Type 0} (output : A → Option (List ℕ)) (xs : List A) (i : ℕ) (x : A) (a b c : Option (List ℕ)) (done now : Result Unit E) → i < length xs → x ≡ get_or xs i x
+    → OnOk done (IfSome (spaced output (take i xs)) (Appends a b)) → OnOk now (IfSome (Some (32 ∷ []) ++? output x) (Appends b c)) → OnOk (result_and done now) (IfSome (spaced output (take (i + 1) xs)) (Appends a c))
+spaced_on output xs i x a b c (Ok u) (Ok v) low e h k = spaced_more output xs i x a b c low e h k
+spaced_on output xs i x a b c (Ok u) (Err r) low e h k = tt
+spaced_on output xs i x a b c (Err r) now low e h k = tt

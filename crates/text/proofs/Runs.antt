@@ -4,7 +4,27 @@ use Rattle.std.specs.Borrow.{Bor, MutBor}
 use Rattle.std.specs.Bool.{MatchBool}
 use Rattle.std.specs.Io.KnownBytes.{Appends}
 use Rattle.std.specs.declared.option.Option.{Option}
+use Rattle.std.specs.Prelude.{Ok, Err, OnOk}
+use Rattle.std.specs.Result.{result_and}
+use Rattle.std.specs.declared.result.Result.{Result}
 use Rattle.text.specs.Runs.{Ran, RunsLine}
+
+-- what follows where a call did not fail
+pub on_map : {E A B : Type 0} (r : Result Unit E) → OnOk r A → (A → B) → OnOk r B
+on_map (Ok u) x f = f x
+on_map (Err e) x f = tt
+
+-- a call that answers r, where that is no failure
+pub on_ran : {E F W : Type 0} (step : F → MutBor W → Bor (List ℕ) → Result Unit E → MutBor W → F → Type 0) {f h : F} {lent left : MutBor W} {told : Bor (List ℕ)} (r : Result Unit E)
+    → step f lent told r left h → OnOk r (Ran (λ e x y z k. step e x y (Ok tt) z k) f lent.now told.now left.now h)
+on_ran step {f} {h} {lent} {left} {told} (Ok u) s = record { lent = lent; before = refl; told = told; tells = refl; left = left; after = refl; ran = s }
+on_ran step (Err e) s = tt
+
+-- what holds where neither of two calls failed
+pub both_on : {E A B C : Type 0} (one two : Result Unit E) → OnOk one A → OnOk two B → (A → B → C) → OnOk (result_and one two) C
+both_on (Ok u) (Ok v) x y f = f x y
+both_on (Ok u) (Err e) x y f = tt
+both_on (Err e) two x y f = tt
 
 module _ {F W : Type 0} (contents : W → Option (List ℕ)) (call : F → MutBor W → Bor (List ℕ) → MutBor W → F → Type 0) (f g : F) (w v : W) where
   pub passes_empty : (line : List ℕ) → length line < 1 → RunsLine contents call (f, w) line (f, w)

@@ -4,6 +4,5 @@
 pub mod hex;
 pub mod lines;
 pub mod number;
-pub mod onward;
 pub mod print;
 pub mod read;

@@ -28,7 +28,8 @@ fn cut_line(text: &[u8]) -> (&[u8], &[u8])
     }
 }
 
-// Runs the lines of a text in turn: one that starts with '#' is written out as it stands, and an empty one is passed over.
+// Runs the lines of a text in turn: one that starts with '#' is written out as it stands, and an empty one is passed over. Where one fails those after it are
+// run all the same; the answer is the first failure.
 pub fn run_lines<W: Write, F: FnMut(&mut W, &[u8]) -> Result<()>>(
     to: &mut W,
     text: &[u8],
@@ -38,15 +39,16 @@ pub fn run_lines<W: Write, F: FnMut(&mut W, &[u8]) -> Result<()>>(
     ensures { OnOk result ((last : F) × FoldsTo (RunsLine W.contents (λ f w line v g. F.step f w line (Ok tt) v g)) (run, to.old) (slice_split (λ b. b == 10) text.now) (last, to.new)) }
 {
     let mut rest = text;
+    let mut done = Ok(());
     // A `for` over `split` was tried: in a generic function it gets no invariant where a closure is in the iterator's type.
     while !rest.is_empty() {
         let (line, next) = cut_line(rest);
         match line {
             [] => {}
-            [b'#', ..] => print::write_comment(to, line)?,
-            _ => run(to, line)?,
+            [b'#', ..] => done = done.and(print::write_comment(to, line)),
+            _ => done = done.and(run(to, line)),
         }
         rest = next;
     }
-    Ok(())
+    done
 }

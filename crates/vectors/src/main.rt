@@ -7,7 +7,6 @@
 #![tactic(auto)]
 
 use std::io::{Result, Write};
-use text::onward::Onward;
 use text::{hex, lines, print, read};
 use verdict::{Answer, Verdict};
 
@@ -17,21 +16,21 @@ const TEXT_BYTES: usize = 65536;
 // Room for a sheet's bytes, nearly twice the longest sheet; a longer one is cut off there, and is refused all the same.
 const ROOM: usize = 8192;
 
+// A word, and numbers behind it. What cannot be written is passed over here and below, and printing goes on: the answer is the first failure.
+fn print_numbers<W: Write>(to: &mut W, word: &[u8], numbers: &[u32]) -> Result<()> {
+    let told = to.write_all(word);
+    told.and(print::all(to, numbers))
+}
+
 fn print_verdict<W: Write>(to: &mut W, answer: Answer, sessions: usize) -> Result<()> {
-    match answer.verdict {
-        Verdict::Passed(slack, t) => {
-            to.write_all(b"passed")?;
-            print::all(to, &[slack.0, t.0])?;
-        }
-        Verdict::Failed(t) => {
-            to.write_all(b"failed")?;
-            print::all(to, &[t.0])?;
-        }
-        Verdict::Unreadable(refusal) => print::refusal(to, refusal.number(), refusal.place)?,
-    }
+    let told = match answer.verdict {
+        Verdict::Passed(slack, t) => print_numbers(to, b"passed", &[slack.0, t.0]),
+        Verdict::Failed(t) => print_numbers(to, b"failed", &[t.0]),
+        Verdict::Unreadable(refusal) => print::refusal(to, refusal.number(), refusal.place),
+    };
     let figures = answer.figures.map(|figure| figure.0);
-    print::all(to, &figures[..figures.len().min(sessions)])?;
-    writeln!(to)
+    let figures = print::all(to, &figures[..figures.len().min(sessions)]);
+    told.and(figures).and(to.write_all(b"\n"))
 }
 
 fn print_answer<W: Write>(to: &mut W, bytes: &[u8]) -> Result<()> {
@@ -39,17 +38,17 @@ fn print_answer<W: Write>(to: &mut W, bytes: &[u8]) -> Result<()> {
         Ok(reading) => {
             let sessions = reading.count;
             let starts = reading.starts;
-            to.write_all(b"read")?;
-            print::all(to, &[reading.capacity.0, reading.period.0])?;
-            print::all(to, &[sessions])?;
-            to.write_all(b":")?;
-            print::all(to, &starts[..starts.len().min(sessions)])?;
-            writeln!(to)?;
-            print_verdict(to, verdict::judge(bytes), sessions)
+            let told = print_numbers(to, b"read", &[reading.capacity.0, reading.period.0]);
+            let told = told
+                .and(print::all(to, &[sessions]))
+                .and(to.write_all(b":"));
+            let told = told.and(print::all(to, &starts[..starts.len().min(sessions)]));
+            let told = told.and(to.write_all(b"\n"));
+            told.and(print_verdict(to, verdict::judge(bytes), sessions))
         }
         Err(refusal) => {
-            print::refusal(to, refusal.number(), refusal.place)?;
-            writeln!(to)
+            let told = print::refusal(to, refusal.number(), refusal.place);
+            told.and(to.write_all(b"\n"))
         }
     }
 }
@@ -65,7 +64,6 @@ fn run_line<W: Write>(to: &mut W, line: &[u8]) -> Result<()> {
 fn main(rt: HostRuntime) {
     let mut text = [0u8; TEXT_BYTES];
     let got = read::read_full(&mut rt.stdin(), &mut text);
-    // What cannot be written is passed over: nobody is there to be told.
-    let mut output = rt.stdout();
-    let _ = lines::run_lines(&mut Onward::new(&mut output), &text[..got], run_line);
+    // Nobody is there to be told what could not be written.
+    let _ = lines::run_lines(&mut rt.stdout(), &text[..got], run_line);
 }
