@@ -1,5 +1,5 @@
-// The printing of answers: what a writer whose contents are known then holds. A piece that cannot be written is passed over, and what comes after it is
-// written all the same; the answer is the first failure.
+// The printing of answers: what a writer whose contents are known then holds. What cannot be written is passed over, a number together with its space, and
+// what comes after it is written all the same; the answer is the first failure.
 ghost use Rattle.std.specs.Prelude.{[], ◌∷◌, ◌++◌, OnOk, IfSome, codes};
 ghost use Rattle.std.specs.Io.KnownBytes.{Appends};
 ghost use Rattle.std.specs.Fmt.{decimal};
