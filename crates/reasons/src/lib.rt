@@ -3,6 +3,7 @@
 
 ghost use Rattle.std.specs.Prelude.{◌≡◌, [], ◌+◌, ◌≤◌, ℕ, List, length};
 ghost use Rattle.console.specs.Written.{AppendsSome};
+ghost use Rattle.refusal.specs.Numbers.{causes, number_of};
 
 use console::failure;
 use console::text::Text;
@@ -19,7 +20,9 @@ pub mod spot;
 const LINE_BYTES: usize = 256;
 
 // The cause that a number names. One that names none is told as a number of sessions or a total that is wrong.
-fn cause_of(number: u32) -> Cause {
+fn cause_of(number: u32) -> Cause
+    ensures { 1 ≤ number → number ≤ length causes → number_of result ≡ number }
+{
     match number {
         1 => Cause::TooShort,
         2 => Cause::Length,

@@ -1,5 +1,6 @@
 // The words for what is wrong with a session.
 ghost use Rattle.std.specs.Prelude.{◌≡◌, [], ◌+◌, ◌<◌, ◌≤◌, length};
+ghost use Rattle.reasons.specs.Spot.{Holds};
 
 use crate::pieces::{put_place, put_right, put_with, small};
 use crate::spot::{PERIOD_AT, byte_at, record_at, session_at, word_at};
@@ -40,7 +41,9 @@ pub struct Session<'a> {
 
 impl<'a> Session<'a> {
     // The session that a place belongs to.
-    pub fn at(bytes: &'a [u8], place: u32) -> Session<'a> {
+    pub fn at(bytes: &'a [u8], place: u32) -> Session<'a>
+        ensures { Holds bytes.now place (record { index = result.index; start = result.start }) × (result.bytes.now ≡ bytes.now) × (result.place ≡ place) }
+    {
         let spot = session_at(bytes, place);
         Session {
             bytes,

@@ -75,7 +75,9 @@ impl Block {
     }
 
     // How many bytes are here: of an unfinished slot alone, once `keep_rest` was called.
-    pub fn have(&self) -> usize {
+    pub fn have(&self) -> usize
+        ensures { result ≡ self.now.have }
+    {
         self.have
     }
 
